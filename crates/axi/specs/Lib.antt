@@ -1,0 +1,4 @@
+pub mod First
+pub mod Plans
+pub mod Bursts
+pub mod Verdicts
