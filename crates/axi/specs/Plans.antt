@@ -14,12 +14,12 @@ use Rattle.axi.specs.declared.plan.PlanRefusal.{PlanRefusal}
 use Rattle.axi.specs.declared.plan.PlanRefusal.the-variants.{Width, LowerAboveUpper, Level}
 use Rattle.axi.specs.declared.plan.Plan.{Plan}
 
-abbrev upper-width : Widths → ℕ
+abbrev pub upper-width : Widths → ℕ
 upper-width FourOverFour = 4
 upper-width EightOverFour = 8
 upper-width EightOverEight = 8
 
-abbrev lower-width : Widths → ℕ
+abbrev pub lower-width : Widths → ℕ
 lower-width FourOverFour = 4
 lower-width EightOverFour = 4
 lower-width EightOverEight = 8

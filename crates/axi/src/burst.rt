@@ -18,7 +18,7 @@ pub enum Kind {
 }
 
 /// A burst as AW or AR carries it.
-#[derive(Clone, Copy, Debug, PartialEq, Eq)]
+#[derive(Clone, Copy)]
 pub struct Burst {
     pub id: u16,
     pub addr: u32,
@@ -41,7 +41,11 @@ fn beat_bytes(size: u8) -> u32
     ensures length { λ r. ⌜ r ≡ getD lengths size 256 ⌝ }
     ensures small { λ r. ⌜ (0 < r) × (r ≤ 256) ⌝ }
 {
-    if size < 8 { LENGTHS[size as usize] } else { PAST_TABLE }
+    if size < 8 {
+        LENGTHS[size as usize]
+    } else {
+        PAST_TABLE
+    }
 }
 
 impl Burst {
@@ -76,6 +80,11 @@ impl Burst {
     pub fn fits(self) -> bool
         ensures { λ r. ⌜ r ≡ burst-fits self ⌝ }
     {
-        self.id <= 4095 && self.size <= 7 && self.burst <= 3 && self.lock <= 1 && self.cache <= 15 && self.prot <= 7
+        self.id <= 4095
+            && self.size <= 7
+            && self.burst <= 3
+            && self.lock <= 1
+            && self.cache <= 15
+            && self.prot <= 7
     }
 }

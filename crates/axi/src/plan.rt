@@ -54,7 +54,7 @@ impl PlanRefusal {
 }
 
 /// The settings of a bridge. Every value is legal.
-#[derive(Clone, Copy, Debug, PartialEq, Eq)]
+#[derive(Clone, Copy)]
 pub struct Plan {
     pub widths: Widths,
     pub level: Level,
