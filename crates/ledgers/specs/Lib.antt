@@ -1,0 +1,12 @@
+pub mod Lists
+pub mod Pieces
+pub mod Wires
+pub mod Ledgers
+pub mod Due
+pub mod Promise
+pub mod Joining
+pub mod Lawful
+pub mod Writer
+pub mod Reader
+pub mod OneByOne
+pub mod Numbered
