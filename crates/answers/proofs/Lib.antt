@@ -1,3 +1,4 @@
 pub mod OrLaws
 pub mod Totals
 pub mod FirstErrors
+pub mod ReadWords

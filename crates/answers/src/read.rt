@@ -1,5 +1,6 @@
 //! Data with a response as an answer.
 ghost use Rattle.answers.specs.Join.{join-reads, no-read, part-answer};
+ghost use Rattle.answers.specs.ReadLanes.{Joins-lane-by-lane};
 ghost use mathlib.Core.Path.{_≡_};
 use axi::code::Code;
 use axi::plan::Plan;
@@ -17,7 +18,8 @@ pub struct ReadAnswer {
 impl ReadAnswer {
     /// What the block's answer to a part at this address counts for: its data on the part's own lanes, all others 0.
     pub fn of_part(plan: Plan, at: u32, lr: LowerRead) -> ReadAnswer
-        ensures { λ r. ⌜ r ≡ part-answer plan at lr ⌝ }
+        ensures value { λ r. ⌜ r ≡ part-answer plan at lr ⌝ }
+        ensures lanes { λ _. ⌜ Joins-lane-by-lane plan ⌝ }
     {
         ReadAnswer {
             rdata: plan.raise(at, lr.lrdata),

@@ -1,0 +1,5 @@
+pub mod Protocol
+pub mod Cursors
+pub mod Inputs
+pub mod Writes
+pub mod WriteSides

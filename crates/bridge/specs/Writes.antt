@@ -1,0 +1,35 @@
+-- What the write engine's state stands for.
+use Prim.Native.Nat.{ℕ, _-_}
+use mathlib.Core.Bool.{Bool}
+use mathlib.Core.List.{List, map}
+use Rattle.axi.specs.Parts.{further}
+use Rattle.axi.specs.declared.plan.Plan.{Plan}
+use Rattle.axi.specs.declared.code.Code.{Code}
+use Rattle.ledgers.specs.Writer as spec
+use Rattle.bridge.specs.Protocol.{pieces, joining, Write-part, write-part}
+use Rattle.bridge.specs.declared.taken.Taken.{Taken}
+use Rattle.bridge.specs.declared.writer.Task.{Task}
+use Rattle.bridge.specs.declared.writer.Part.{Part}
+use Rattle.bridge.specs.declared.writer.Writer.{Writer}
+use Rattle.bridge.specs.declared.writer.Writer.the-variants.{Idle, Fetch, Send, Await, Close}
+
+-- the burst under way, and the sum of its responses
+abbrev pub task-burst : Task → Taken
+task-burst t = record { burst = t .walk .burst; verdict = t .verdict }
+
+abbrev pub task-sum : Task → Code
+task-sum t = t .sum .sum
+
+-- the part at hand, and the parts of its beat after it
+abbrev pub part-at : Plan → Task → Part → Write-part
+part-at p t q = write-part p (t .walk .burst) (q .beat) (q .parts .at)
+
+abbrev pub parts-after : Plan → Task → Part → List Write-part
+parts-after p t q = map (write-part p (t .walk .burst) (q .beat)) (further p (q .parts .at) (q .parts .more))
+
+abbrev pub writer-view : (p : Plan) → Writer → spec.Writer (pieces p) (joining p)
+writer-view p Idle = spec.Writer.idle
+writer-view p (Fetch t) = spec.Writer.fetch (task-burst t) (t .walk .count - 1) (task-sum t)
+writer-view p (Send t q a d) = spec.Writer.send (task-burst t) (t .walk .count) (task-sum t) (part-at p t q) (parts-after p t q) a d
+writer-view p (Await t q) = spec.Writer.await (task-burst t) (t .walk .count) (task-sum t) (part-at p t q) (parts-after p t q)
+writer-view p (Close t) = spec.Writer.close (task-burst t) (task-sum t)

@@ -1,0 +1,4 @@
+//! The bridge from a full AXI4 master to an AXI4-Lite block, one rising clock edge a call.
+pub mod taken;
+mod writer;
+mod writes;

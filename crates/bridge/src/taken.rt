@@ -1,0 +1,46 @@
+//! A burst as the tables hold it.
+ghost use Rattle.bridge.specs.Cursors.{cursor-places};
+ghost use Rattle.axi.specs.Parts.{further};
+ghost use Rattle.bridge.specs.Protocol.{judged, cut-at};
+ghost use mathlib.Core.Path.{_≡_};
+use axi::burst::Burst;
+use axi::parts::Parts;
+use axi::plan::Plan;
+use axi::verdict::Verdict;
+
+/// A burst that was taken above, with the verdict that it was given on that edge.
+#[derive(Clone, Copy)]
+pub struct Taken {
+    pub burst: Burst,
+    pub verdict: Verdict,
+}
+
+impl Taken {
+    /// The burst with the verdict that the plan gives it.
+    pub fn new(plan: Plan, burst: Burst) -> Taken
+        ensures { λ r. ⌜ r ≡ judged plan burst ⌝ }
+    {
+        Taken {
+            burst,
+            verdict: plan.judge(burst),
+        }
+    }
+
+    /// The parts of a beat at this address. A beat of a refused burst has none.
+    pub fn cut(self, plan: Plan, at: u32) -> Option<Parts>
+        ensures { λ r. ⌜ cursor-places plan r ≡ cut-at plan self at ⌝ }
+    {
+        if self.verdict.is_forwarded() {
+            Some(plan.parts(self.burst, at))
+        } else {
+            None
+        }
+    }
+}
+
+/// The parts of a beat after the one at hand.
+pub fn parts_after(plan: Plan, parts: Parts) -> Option<Parts>
+    ensures { λ r. ⌜ cursor-places plan r ≡ further plan (parts .at) (parts .more) ⌝ }
+{
+    plan.next_parts(parts)
+}

@@ -1,0 +1,147 @@
+//! The write engine: one part under way at a time.
+ghost use Prim.Native.Nat.{ℕ, _-_};
+ghost use Rattle.bridge.specs.Protocol.{pieces, joining, write-part, answer-of};
+ghost use Rattle.bridge.specs.Cursors.{cursor-places};
+ghost use Rattle.bridge.specs.Writes.{writer-view, part-at, parts-after, task-burst, task-sum};
+ghost use Rattle.ledgers.specs.Writer.{next-beat, with-parts, sent, take-beat};
+ghost use Rattle.axi.specs.Bursts.{beats};
+ghost use Rattle.axi.specs.Codes.{read-code};
+ghost use Rattle.axi.specs.declared.code.Code.the-variants.{Okay};
+ghost use Rattle.answers.specs.Join.{join-codes};
+ghost use mathlib.Core.List.{[], _∷_, map};
+ghost use mathlib.Core.Bool.{_||_};
+ghost use mathlib.Core.Path.{_≡_};
+use answers::answer::CodeAnswer;
+use answers::collector::Collector;
+use axi::code::Code;
+use axi::parts::Beat;
+use axi::parts::Parts;
+use axi::plan::Plan;
+use axi::verdict::Verdict;
+use axi::walk::Walk;
+use axi::wires::WriteAnswer;
+use crate::taken::Taken;
+use crate::taken::parts_after;
+
+/// A write burst under way: its beats to come, its verdict, and the responses to its parts so far.
+#[derive(Clone, Copy)]
+pub struct Task {
+    pub walk: Walk,
+    pub verdict: Verdict,
+    pub sum: Collector<Code>,
+}
+
+/// The part at hand of a data beat.
+#[derive(Clone, Copy)]
+pub struct Part {
+    pub beat: Beat,
+    pub parts: Parts,
+}
+
+/// What the write engine does.
+#[derive(Clone, Copy)]
+pub enum Writer {
+    /// No burst is under way.
+    Idle,
+    /// Waits for the next data beat.
+    Fetch(Task),
+    /// Offers a part on LAW and LW; the flags say which of them has crossed.
+    Send(Task, Part, bool, bool),
+    /// Waits for the response to the part.
+    Await(Task, Part),
+    /// Waits for a slot for the answer.
+    Close(Task),
+}
+
+impl Task {
+    /// The burst is begun.
+    pub fn new(taken: Taken) -> Task
+        ensures burst { λ r. ⌜ task-burst r ≡ taken ⌝ }
+        ensures beats { λ r. ⌜ r .walk .count ≡ beats (taken .burst) ⌝ }
+        ensures sum { λ r. ⌜ task-sum r ≡ Okay ⌝ }
+    {
+        Task {
+            walk: Walk::new(taken.burst),
+            verdict: taken.verdict,
+            sum: Collector::new(),
+        }
+    }
+
+    /// The burst as it was taken.
+    fn taken(self) -> Taken
+        ensures { λ r. ⌜ r ≡ task-burst self ⌝ }
+    {
+        Taken {
+            burst: self.walk.burst,
+            verdict: self.verdict,
+        }
+    }
+
+    /// A beat is done: on with the next one, or to the answer.
+    fn next_beat(self) -> Writer
+        ensures { λ r. ⌜ ((p : Plan) → writer-view p r ≡ next-beat (pieces p) (joining p) (task-burst self) (self .walk .count) (task-sum self)) ⌝ }
+    {
+        if self.walk.is_empty() {
+            Writer::Close(self)
+        } else {
+            Writer::Fetch(self)
+        }
+    }
+
+    /// On with these parts of a data beat, or with what follows where there are none.
+    fn with_parts(self, plan: Plan, beat: Beat, parts: Option<Parts>) -> Writer
+        ensures { λ r. ⌜ writer-view plan r ≡ with-parts (pieces plan) (joining plan) (task-burst self) (self .walk .count) (task-sum self) (map (write-part plan (self .walk .burst) beat) (cursor-places plan parts)) ⌝ }
+    {
+        match parts {
+            Some(parts) => Writer::Send(self, Part { beat, parts }, false, false),
+            None => self.next_beat(),
+        }
+    }
+
+    /// A data beat is taken and cut into its parts.
+    pub fn take(self, plan: Plan, beat: Beat) -> Writer
+        ensures { λ r. ⌜ writer-view plan r ≡ take-beat (pieces plan) (joining plan) (task-burst self) (self .walk .count - 1) (task-sum self) (beat ∷ []) ⌝ }
+    {
+        let (at, rest) = self.walk.next();
+        let parts = self.taken().cut(plan, at);
+        let task = Task {
+            walk: rest,
+            verdict: self.verdict,
+            sum: self.sum,
+        };
+        task.with_parts(plan, beat, parts)
+    }
+
+    /// The block's response to a part is joined, and the next part follows.
+    pub fn answer(self, plan: Plan, part: Part, lbresp: u8) -> Writer
+        ensures { λ r. ⌜ writer-view plan r ≡ with-parts (pieces plan) (joining plan) (task-burst self) (self .walk .count) (join-codes (task-sum self) (read-code lbresp)) (parts-after plan self part) ⌝ }
+    {
+        let task = Task {
+            walk: self.walk,
+            verdict: self.verdict,
+            sum: self.sum.add(Code::read(lbresp)),
+        };
+        task.with_parts(plan, part.beat, parts_after(plan, part.parts))
+    }
+
+    /// What crossed of a part: it is offered on, or it waits for its response.
+    pub fn send(self, part: Part, law: bool, lw: bool) -> Writer
+        ensures { λ r. ⌜ ((p : Plan) → writer-view p r ≡ sent (pieces p) (joining p) (task-burst self) (self .walk .count) (task-sum self) (part-at p self part) (parts-after p self part) law lw) ⌝ }
+    {
+        if law && lw {
+            Writer::Await(self, part)
+        } else {
+            Writer::Send(self, part, law, lw)
+        }
+    }
+
+    /// The answer to the burst: SLVERR where it was refused, else what its responses join to.
+    pub fn write_answer(self) -> WriteAnswer
+        ensures { λ r. ⌜ r ≡ answer-of (task-burst self) (task-sum self) ⌝ }
+    {
+        WriteAnswer {
+            id: self.walk.burst.id,
+            code: if self.verdict.is_forwarded() { self.sum.sum() } else { Code::SlvErr },
+        }
+    }
+}
