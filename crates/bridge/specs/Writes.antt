@@ -6,10 +6,12 @@ use Rattle.axi.specs.Parts.{further}
 use Rattle.axi.specs.declared.plan.Plan.{Plan}
 use Rattle.axi.specs.declared.code.Code.{Code}
 use Rattle.ledgers.specs.Writer as spec
-use Rattle.bridge.specs.Protocol.{pieces, joining, Write-part, write-part}
+use Rattle.ledgers.specs.Writer.Side.{law-side, lw-side}
+use Rattle.bridge.specs.Protocol.{pieces, joining, Write-part, write-part, no-place, no-beat}
 use Rattle.bridge.specs.declared.taken.Taken.{Taken}
 use Rattle.bridge.specs.declared.writer.Task.{Task}
 use Rattle.bridge.specs.declared.writer.Part.{Part}
+use Rattle.bridge.specs.declared.writer.WriterWires.{WriterWires}
 use Rattle.bridge.specs.declared.writer.Writer.{Writer}
 use Rattle.bridge.specs.declared.writer.Writer.the-variants.{Idle, Fetch, Send, Await, Close}
 
@@ -33,3 +35,13 @@ writer-view p (Fetch t) = spec.Writer.fetch (task-burst t) (t .walk .count - 1) 
 writer-view p (Send t q a d) = spec.Writer.send (task-burst t) (t .walk .count) (task-sum t) (part-at p t q) (parts-after p t q) a d
 writer-view p (Await t q) = spec.Writer.await (task-burst t) (t .walk .count) (task-sum t) (part-at p t q) (parts-after p t q)
 writer-view p (Close t) = spec.Writer.close (task-burst t) (task-sum t)
+
+-- what the engine drives
+abbrev pub writer-wires : Plan → Writer → WriterWires
+writer-wires p w = record {
+  lawvalid = spec.valid-on law-side (writer-view p w);
+  law = spec.shown-on law-side no-place (λ q. q .place) (writer-view p w);
+  lwvalid = spec.valid-on lw-side (writer-view p w);
+  lw = spec.shown-on lw-side no-beat (λ q. q .lanes) (writer-view p w);
+  lbready = spec.lb-ready (writer-view p w);
+}

@@ -4,7 +4,9 @@ ghost use Rattle.axi.specs.Parts.{further};
 ghost use Rattle.bridge.specs.Protocol.{judged, cut-at};
 ghost use mathlib.Core.Path.{_≡_};
 use axi::burst::Burst;
+use axi::parts::Beat;
 use axi::parts::Parts;
+use axi::parts::Place;
 use axi::plan::Plan;
 use axi::verdict::Verdict;
 
@@ -14,6 +16,12 @@ pub struct Taken {
     pub burst: Burst,
     pub verdict: Verdict,
 }
+
+/// The payload of LAW and LAR under a low VALID.
+pub const NO_PLACE: Place = Place { addr: 0, prot: 0 };
+
+/// The payload of LW under a low VALID.
+pub const NO_BEAT: Beat = Beat { wdata: 0, wstrb: 0 };
 
 impl Taken {
     /// The burst with the verdict that the plan gives it.

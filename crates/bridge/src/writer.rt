@@ -1,25 +1,28 @@
 //! The write engine: one part under way at a time.
 ghost use Prim.Native.Nat.{ℕ, _-_};
-ghost use Rattle.bridge.specs.Protocol.{pieces, joining, write-part, answer-of};
+ghost use Rattle.bridge.specs.Protocol.{pieces, joining, write-part, answer-of, place, no-place, no-beat};
 ghost use Rattle.bridge.specs.Cursors.{cursor-places};
-ghost use Rattle.bridge.specs.Writes.{writer-view, part-at, parts-after, task-burst, task-sum};
+ghost use Rattle.bridge.specs.Writes.{writer-view, writer-wires, part-at, parts-after, task-burst, task-sum};
 ghost use Rattle.ledgers.specs.Writer.{next-beat, with-parts, sent, take-beat};
 ghost use Rattle.axi.specs.Bursts.{beats};
 ghost use Rattle.axi.specs.Codes.{read-code};
 ghost use Rattle.axi.specs.declared.code.Code.the-variants.{Okay};
 ghost use Rattle.answers.specs.Join.{join-codes};
 ghost use mathlib.Core.List.{[], _∷_, map};
-ghost use mathlib.Core.Bool.{_||_};
+ghost use mathlib.Core.Bool.{false};
 ghost use mathlib.Core.Path.{_≡_};
 use answers::answer::CodeAnswer;
 use answers::collector::Collector;
 use axi::code::Code;
 use axi::parts::Beat;
 use axi::parts::Parts;
+use axi::parts::Place;
 use axi::plan::Plan;
 use axi::verdict::Verdict;
 use axi::walk::Walk;
 use axi::wires::WriteAnswer;
+use crate::taken::NO_BEAT;
+use crate::taken::NO_PLACE;
 use crate::taken::Taken;
 use crate::taken::parts_after;
 
@@ -135,6 +138,16 @@ impl Task {
         }
     }
 
+    /// The address of a part and the burst's PROT.
+    fn place(self, part: Part) -> Place
+        ensures { λ r. ⌜ r ≡ place (self .walk .burst) (part .parts .at) ⌝ }
+    {
+        Place {
+            addr: part.parts.at,
+            prot: self.walk.burst.prot,
+        }
+    }
+
     /// The answer to the burst: SLVERR where it was refused, else what its responses join to.
     pub fn write_answer(self) -> WriteAnswer
         ensures { λ r. ⌜ r ≡ answer-of (task-burst self) (task-sum self) ⌝ }
@@ -143,5 +156,47 @@ impl Task {
             id: self.walk.burst.id,
             code: if self.verdict.is_forwarded() { self.sum.sum() } else { Code::SlvErr },
         }
+    }
+}
+
+/// What the write engine drives.
+#[derive(Clone, Copy)]
+pub struct WriterWires {
+    pub lawvalid: bool,
+    pub law: Place,
+    pub lwvalid: bool,
+    pub lw: Beat,
+    pub lbready: bool,
+}
+
+impl Writer {
+    /// The wires of the engine: a part until it has crossed, and LBREADY once it has crossed on both channels.
+    pub fn wires(self, plan: Plan) -> WriterWires
+        ensures { λ r. ⌜ r ≡ writer-wires plan self ⌝ }
+    {
+        match self {
+            Writer::Send(task, part, law, lw) => WriterWires {
+                lawvalid: !law,
+                law: if law { NO_PLACE } else { task.place(part) },
+                lwvalid: !lw,
+                lw: if lw { NO_BEAT } else { plan.write_part(part.parts.at, part.beat) },
+                lbready: false,
+            },
+            Writer::Await(_, _) => silent(true),
+            Writer::Idle | Writer::Fetch(_) | Writer::Close(_) => silent(false),
+        }
+    }
+}
+
+/// No part on offer.
+fn silent(lbready: bool) -> WriterWires
+    ensures { λ r. ⌜ r ≡ record { lawvalid = false; law = no-place; lwvalid = false; lw = no-beat; lbready = lbready } ⌝ }
+{
+    WriterWires {
+        lawvalid: false,
+        law: NO_PLACE,
+        lwvalid: false,
+        lw: NO_BEAT,
+        lbready,
     }
 }

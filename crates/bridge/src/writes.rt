@@ -1,6 +1,11 @@
 //! The write side: three queues and the write engine.
 ghost use Rattle.bridge.specs.Inputs.{inputs-view};
-ghost use Rattle.bridge.specs.WriteSides.{writes-view, write-slots, no-writes, writes-moved};
+ghost use Rattle.bridge.specs.WriteSides.{writes-view, write-slots, no-writes, writes-moved, writes-crossed, write-events, when};
+ghost use Rattle.bridge.specs.Protocol.{judged};
+ghost use Rattle.ledgers.specs.Lists.{any};
+ghost use Rattle.ledgers.specs.OneByOne.{room};
+ghost use Rattle.ring.specs.Entries.{entries};
+ghost use mathlib.Core.Bool.{_&&_};
 ghost use lib.ListN.{length};
 ghost use mathlib.Core.Path.{_≡_};
 use axi::code::Code;
@@ -66,4 +71,94 @@ impl<'a> WriteSide<'a> {
             }
         }
     }
+
+    /// AWREADY: there is a slot for a burst.
+    fn takes_burst(&self) -> bool
+        ensures { λ r. ⌜ r ≡ room (write-slots (now (self .entry)) .bursts) (entries (now (self .entry) .bursts)) ⌝ }
+    {
+        !self.bursts.is_full()
+    }
+
+    /// WREADY: there is a slot for a data beat.
+    fn takes_beat(&self) -> bool
+        ensures { λ r. ⌜ r ≡ room (write-slots (now (self .entry)) .beats) (entries (now (self .entry) .beats)) ⌝ }
+    {
+        !self.beats.is_full()
+    }
+
+    /// BVALID: an answer waits.
+    fn has_answer(&self) -> bool
+        ensures { λ r. ⌜ r ≡ any (entries (now (self .entry) .answers)) ⌝ }
+    {
+        self.answers.front().is_some()
+    }
+
+    /// The burst that crosses above, with the verdict that the plan gives it.
+    fn burst_taken(&self, plan: Plan, x: &Inputs) -> Option<Taken>
+        ensures { λ r. ⌜ r ≡ when (now (x .entry) .awvalid && room (write-slots (now (self .entry)) .bursts) (entries (now (self .entry) .bursts))) (judged plan (now (x .entry) .aw)) ⌝ }
+    {
+        if x.awvalid & self.takes_burst() { Some(Taken::new(plan, x.aw)) } else { None }
+    }
+
+    /// The data beat that crosses above.
+    fn beat_taken(&self, x: &Inputs) -> Option<Beat>
+        ensures { λ r. ⌜ r ≡ when (now (x .entry) .wvalid && room (write-slots (now (self .entry)) .beats) (entries (now (self .entry) .beats))) (now (x .entry) .w) ⌝ }
+    {
+        if x.wvalid & self.takes_beat() { Some(x.w) } else { None }
+    }
+
+    /// What crosses on an edge with these wires, before anything moves.
+    fn events(&self, plan: Plan, x: &Inputs) -> WriteEvents
+        ensures { λ r. ⌜ r ≡ write-events plan (write-slots (now (self .entry))) (writes-view plan (now (self .entry))) (inputs-view plan (now (x .entry))) ⌝ }
+    {
+        let wires = self.writer.wires(plan);
+        WriteEvents {
+            aw: self.burst_taken(plan, x),
+            w: self.beat_taken(x),
+            b: self.has_answer() & x.bready,
+            law: wires.lawvalid & x.lawready,
+            lw: wires.lwvalid & x.lwready,
+            lb: x.lbvalid & wires.lbready,
+        }
+    }
+
+    /// What crosses above: an answer leaves, a burst and a beat enter.
+    fn cross(&mut self, events: WriteEvents)
+        ensures crossed { λ _. ⌜ ((p : Plan) → writes-view p (now (self .exit)) ≡ writes-crossed (write-slots (now (self .entry))) (events .aw) (events .w) (events .b) (writes-view p (now (self .entry)))) ⌝ }
+        ensures kept { λ _. ⌜ write-slots (now (self .exit)) ≡ write-slots (now (self .entry)) ⌝ }
+    {
+        if events.b {
+            self.answers.pop();
+        }
+        if let Some(taken) = events.aw {
+            self.bursts.push(taken);
+        }
+        if let Some(beat) = events.w {
+            self.beats.push(beat);
+        }
+    }
+
+    /// Empties the queues and stops the engine.
+    pub fn reset(&mut self)
+        ensures empty { λ _. ⌜ ((p : Plan) → writes-view p (now (self .exit)) ≡ no-writes p) ⌝ }
+        ensures kept { λ _. ⌜ write-slots (now (self .exit)) ≡ write-slots (now (self .entry)) ⌝ }
+    {
+        self.bursts.clear();
+        self.beats.clear();
+        self.answers.clear();
+        self.writer = Writer::Idle;
+    }
+}
+
+/// What crosses on one edge of the write side.
+#[derive(Clone, Copy)]
+pub struct WriteEvents {
+    /// The burst taken above, with its verdict.
+    pub aw: Option<Taken>,
+    /// The data beat taken above.
+    pub w: Option<Beat>,
+    pub b: bool,
+    pub law: bool,
+    pub lw: bool,
+    pub lb: bool,
 }
