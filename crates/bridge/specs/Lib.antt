@@ -1,5 +1,6 @@
 pub mod Protocol
 pub mod Cursors
 pub mod Inputs
+pub mod Tasks
 pub mod Writes
 pub mod WriteSides

@@ -8,25 +8,18 @@ use Rattle.axi.specs.declared.code.Code.{Code}
 use Rattle.ledgers.specs.Writer as spec
 use Rattle.ledgers.specs.Writer.Side.{law-side, lw-side}
 use Rattle.bridge.specs.Protocol.{pieces, joining, Write-part, write-part, no-place, no-beat}
-use Rattle.bridge.specs.declared.taken.Taken.{Taken}
-use Rattle.bridge.specs.declared.writer.Task.{Task}
+use Rattle.bridge.specs.Tasks.{task-burst, task-sum}
+use Rattle.bridge.specs.declared.task.Task.{Task}
 use Rattle.bridge.specs.declared.writer.Part.{Part}
 use Rattle.bridge.specs.declared.writer.WriterWires.{WriterWires}
 use Rattle.bridge.specs.declared.writer.Writer.{Writer}
 use Rattle.bridge.specs.declared.writer.Writer.the-variants.{Idle, Fetch, Send, Await, Close}
 
--- the burst under way, and the sum of its responses
-abbrev pub task-burst : Task → Taken
-task-burst t = record { burst = t .walk .burst; verdict = t .verdict }
-
-abbrev pub task-sum : Task → Code
-task-sum t = t .sum .sum
-
 -- the part at hand, and the parts of its beat after it
-abbrev pub part-at : Plan → Task → Part → Write-part
+abbrev pub part-at : Plan → Task Code → Part → Write-part
 part-at p t q = write-part p (t .walk .burst) (q .beat) (q .parts .at)
 
-abbrev pub parts-after : Plan → Task → Part → List Write-part
+abbrev pub parts-after : Plan → Task Code → Part → List Write-part
 parts-after p t q = map (write-part p (t .walk .burst) (q .beat)) (further p (q .parts .at) (q .parts .more))
 
 abbrev pub writer-view : (p : Plan) → Writer → spec.Writer (pieces p) (joining p)

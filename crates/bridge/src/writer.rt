@@ -1,38 +1,26 @@
 //! The write engine: one part under way at a time.
 ghost use Prim.Native.Nat.{ℕ, _-_};
-ghost use Rattle.bridge.specs.Protocol.{pieces, joining, write-part, answer-of, place, no-place, no-beat};
+ghost use Rattle.bridge.specs.Protocol.{pieces, joining, write-part, answer-of, no-place, no-beat};
 ghost use Rattle.bridge.specs.Cursors.{cursor-places};
-ghost use Rattle.bridge.specs.Writes.{writer-view, writer-wires, part-at, parts-after, task-burst, task-sum};
+ghost use Rattle.bridge.specs.Writes.{writer-view, writer-wires, part-at, parts-after};
+ghost use Rattle.bridge.specs.Tasks.{task-burst, task-sum};
 ghost use Rattle.ledgers.specs.Writer.{next-beat, with-parts, sent, take-beat};
-ghost use Rattle.axi.specs.Bursts.{beats};
 ghost use Rattle.axi.specs.Codes.{read-code};
-ghost use Rattle.axi.specs.declared.code.Code.the-variants.{Okay};
 ghost use Rattle.answers.specs.Join.{join-codes};
 ghost use mathlib.Core.List.{[], _∷_, map};
 ghost use mathlib.Core.Bool.{false};
 ghost use mathlib.Core.Path.{_≡_};
 use answers::answer::CodeAnswer;
-use answers::collector::Collector;
 use axi::code::Code;
 use axi::parts::Beat;
 use axi::parts::Parts;
 use axi::parts::Place;
 use axi::plan::Plan;
-use axi::verdict::Verdict;
-use axi::walk::Walk;
 use axi::wires::WriteAnswer;
 use crate::taken::NO_BEAT;
 use crate::taken::NO_PLACE;
-use crate::taken::Taken;
+use crate::task::Task;
 use crate::taken::parts_after;
-
-/// A write burst under way: its beats to come, its verdict, and the responses to its parts so far.
-#[derive(Clone, Copy)]
-pub struct Task {
-    pub walk: Walk,
-    pub verdict: Verdict,
-    pub sum: Collector<Code>,
-}
 
 /// The part at hand of a data beat.
 #[derive(Clone, Copy)]
@@ -47,39 +35,16 @@ pub enum Writer {
     /// No burst is under way.
     Idle,
     /// Waits for the next data beat.
-    Fetch(Task),
+    Fetch(Task<Code>),
     /// Offers a part on LAW and LW; the flags say which of them has crossed.
-    Send(Task, Part, bool, bool),
+    Send(Task<Code>, Part, bool, bool),
     /// Waits for the response to the part.
-    Await(Task, Part),
+    Await(Task<Code>, Part),
     /// Waits for a slot for the answer.
-    Close(Task),
+    Close(Task<Code>),
 }
 
-impl Task {
-    /// The burst is begun.
-    pub fn new(taken: Taken) -> Task
-        ensures burst { λ r. ⌜ task-burst r ≡ taken ⌝ }
-        ensures beats { λ r. ⌜ r .walk .count ≡ beats (taken .burst) ⌝ }
-        ensures sum { λ r. ⌜ task-sum r ≡ Okay ⌝ }
-    {
-        Task {
-            walk: Walk::new(taken.burst),
-            verdict: taken.verdict,
-            sum: Collector::new(),
-        }
-    }
-
-    /// The burst as it was taken.
-    fn taken(self) -> Taken
-        ensures { λ r. ⌜ r ≡ task-burst self ⌝ }
-    {
-        Taken {
-            burst: self.walk.burst,
-            verdict: self.verdict,
-        }
-    }
-
+impl Task<Code> {
     /// A beat is done: on with the next one, or to the answer.
     fn next_beat(self) -> Writer
         ensures { λ r. ⌜ ((p : Plan) → writer-view p r ≡ next-beat (pieces p) (joining p) (task-burst self) (self .walk .count) (task-sum self)) ⌝ }
@@ -107,24 +72,14 @@ impl Task {
     {
         let (at, rest) = self.walk.next();
         let parts = self.taken().cut(plan, at);
-        let task = Task {
-            walk: rest,
-            verdict: self.verdict,
-            sum: self.sum,
-        };
-        task.with_parts(plan, beat, parts)
+        self.at(rest).with_parts(plan, beat, parts)
     }
 
     /// The block's response to a part is joined, and the next part follows.
     pub fn answer(self, plan: Plan, part: Part, lbresp: u8) -> Writer
         ensures { λ r. ⌜ writer-view plan r ≡ with-parts (pieces plan) (joining plan) (task-burst self) (self .walk .count) (join-codes (task-sum self) (read-code lbresp)) (parts-after plan self part) ⌝ }
     {
-        let task = Task {
-            walk: self.walk,
-            verdict: self.verdict,
-            sum: self.sum.add(Code::read(lbresp)),
-        };
-        task.with_parts(plan, part.beat, parts_after(plan, part.parts))
+        self.join(Code::read(lbresp)).with_parts(plan, part.beat, parts_after(plan, part.parts))
     }
 
     /// What crossed of a part: it is offered on, or it waits for its response.
@@ -135,16 +90,6 @@ impl Task {
             Writer::Await(self, part)
         } else {
             Writer::Send(self, part, law, lw)
-        }
-    }
-
-    /// The address of a part and the burst's PROT.
-    fn place(self, part: Part) -> Place
-        ensures { λ r. ⌜ r ≡ place (self .walk .burst) (part .parts .at) ⌝ }
-    {
-        Place {
-            addr: part.parts.at,
-            prot: self.walk.burst.prot,
         }
     }
 
@@ -177,7 +122,7 @@ impl Writer {
         match self {
             Writer::Send(task, part, law, lw) => WriterWires {
                 lawvalid: !law,
-                law: if law { NO_PLACE } else { task.place(part) },
+                law: if law { NO_PLACE } else { task.place(part.parts.at) },
                 lwvalid: !lw,
                 lw: if lw { NO_BEAT } else { plan.write_part(part.parts.at, part.beat) },
                 lbready: false,

@@ -8,13 +8,14 @@ ghost use Rattle.ring.specs.Entries.{entries};
 ghost use mathlib.Core.Bool.{_&&_};
 ghost use lib.ListN.{length};
 ghost use mathlib.Core.Path.{_≡_};
+use answers::answer::CodeAnswer;
 use axi::code::Code;
 use axi::parts::Beat;
 use axi::plan::Plan;
 use axi::wires::Inputs;
 use axi::wires::WriteAnswer;
 use crate::taken::Taken;
-use crate::writer::Task;
+use crate::task::Task;
 use crate::writer::Writer;
 use ring::Ring;
 
