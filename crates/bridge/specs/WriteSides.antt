@@ -1,18 +1,17 @@
 -- The write side of the bridge: its three queues and its engine.
 use Prim.Native.Nat.{ℕ}
-use mathlib.Core.Bool.{Bool, true, false, cond, _&&_}
-use mathlib.Core.List.{List, [], _∷_, _++_}
-use Rattle.std.specs.declared.option.Option.{Option}
-use Rattle.std.specs.declared.option.Option.the-variants.{Some, None}
+use mathlib.Core.Bool.{Bool, _&&_}
+use mathlib.Core.List.{List, [], _++_}
 use Rattle.ring.specs.Entries.{entries, slot-count}
 use Rattle.axi.specs.declared.plan.Plan.{Plan}
 use Rattle.axi.specs.declared.parts.Beat.{Beat}
 use Rattle.axi.specs.declared.wires.WriteAnswer.{WriteAnswer}
-use Rattle.ledgers.specs.Lists.{just-if, less-if, any}
+use Rattle.ledgers.specs.Lists.{less-if, any}
 use Rattle.ledgers.specs.Wires.{Inputs}
 use Rattle.ledgers.specs.OneByOne.{room}
 use Rattle.ledgers.specs.Writer as spec
 use Rattle.ledgers.specs.Writer.Side.{law-side, lw-side}
+use Rattle.bridge.specs.Queues.{entered, when}
 use Rattle.bridge.specs.Protocol.{pieces, joining, judged}
 use Rattle.bridge.specs.Writes.{writer-view}
 use Rattle.bridge.specs.declared.taken.Taken.{Taken}
@@ -53,36 +52,6 @@ writes-moved p sl s x =
       writer = spec.move (pieces p) (joining p) (s .writer) (s .bursts) (s .beats) free x;
     }
 
--- one entry more, if there is one and a slot for it
-abbrev pub entered : {X : Type 0} → ℕ → Option X → List X → List X
-entered n None xs = xs
-entered n (Some x) xs = cond (room n xs) (xs ++ (x ∷ [])) xs
-
--- one entry, if the channel crosses
-abbrev pub when : {X : Type 0} → Bool → X → Option X
-when true x = Some x
-when false x = None
-
--- what crosses above: a burst and a beat that enter, an answer that leaves
-abbrev pub writes-crossed : {p : Plan} → Write-slots → Option Taken → Option Beat → Bool → Writes p → Writes p
-writes-crossed sl burst beat answer s = record {
-  bursts = entered (sl .bursts) burst (s .bursts);
-  beats = entered (sl .beats) beat (s .beats);
-  answers = less-if answer (s .answers);
-  writer = s .writer;
-}
-
--- one edge of the write side: the queues and the engine of the whole bridge's step
-abbrev pub writes-stepped : (p : Plan) → Write-slots → Writes p → Inputs (pieces p) → Writes p
-writes-stepped p sl s x =
-    let free = room (sl .answers) (s .answers) in
-    record {
-      bursts = less-if (spec.takes-burst (s .writer)) (s .bursts) ++ just-if (x .awvalid && room (sl .bursts) (s .bursts)) (judged p (x .aw));
-      beats = less-if (spec.takes-beat (s .writer)) (s .beats) ++ just-if (x .wvalid && room (sl .beats) (s .beats)) (x .w);
-      answers = less-if (x .bready) (s .answers) ++ spec.closing (pieces p) (joining p) (s .writer) free;
-      writer = spec.move (pieces p) (joining p) (s .writer) (s .bursts) (s .beats) free x;
-    }
-
 -- what crosses on an edge: the burst taken above with its verdict, the data beat, and whether B, LAW, LW and LB cross
 abbrev pub write-events : (p : Plan) → Write-slots → Writes p → Inputs (pieces p) → WriteEvents
 write-events p sl s x = record {
@@ -93,3 +62,16 @@ write-events p sl s x = record {
   lw = spec.valid-on lw-side (s .writer) && x .lwready;
   lb = x .lbvalid && spec.lb-ready (s .writer);
 }
+
+-- what crosses above: a burst and a beat enter, an answer leaves
+abbrev pub writes-crossed : {p : Plan} → Write-slots → WriteEvents → Writes p → Writes p
+writes-crossed sl e s = record {
+  bursts = entered (sl .bursts) (e .aw) (s .bursts);
+  beats = entered (sl .beats) (e .w) (s .beats);
+  answers = less-if (e .b) (s .answers);
+  writer = s .writer;
+}
+
+-- one edge: the engine moves, then what crosses above enters and leaves
+abbrev pub writes-edged : (p : Plan) → Write-slots → Writes p → Inputs (pieces p) → Writes p
+writes-edged p sl s x = writes-crossed sl (write-events p sl s x) (writes-moved p sl s x)

@@ -1,6 +1,7 @@
 //! The write side: three queues and the write engine.
 ghost use Rattle.bridge.specs.Inputs.{inputs-view};
-ghost use Rattle.bridge.specs.WriteSides.{writes-view, write-slots, no-writes, writes-moved, writes-crossed, write-events, when};
+ghost use Rattle.bridge.specs.WriteSides.{writes-view, write-slots, no-writes, writes-moved, writes-crossed, write-events, writes-edged};
+ghost use Rattle.bridge.specs.Queues.{when};
 ghost use Rattle.bridge.specs.Protocol.{judged};
 ghost use Rattle.ledgers.specs.Lists.{any};
 ghost use Rattle.ledgers.specs.OneByOne.{room};
@@ -124,8 +125,8 @@ impl<'a> WriteSide<'a> {
     }
 
     /// What crosses above: an answer leaves, a burst and a beat enter.
-    fn cross(&mut self, events: WriteEvents)
-        ensures crossed { λ _. ⌜ ((p : Plan) → writes-view p (now (self .exit)) ≡ writes-crossed (write-slots (now (self .entry))) (events .aw) (events .w) (events .b) (writes-view p (now (self .entry)))) ⌝ }
+    fn cross(&mut self, plan: Plan, events: WriteEvents)
+        ensures crossed { λ _. ⌜ writes-view plan (now (self .exit)) ≡ writes-crossed (write-slots (now (self .entry))) events (writes-view plan (now (self .entry))) ⌝ }
         ensures kept { λ _. ⌜ write-slots (now (self .exit)) ≡ write-slots (now (self .entry)) ⌝ }
     {
         if events.b {
@@ -137,6 +138,18 @@ impl<'a> WriteSide<'a> {
         if let Some(beat) = events.w {
             self.beats.push(beat);
         }
+    }
+
+    /// One edge: the engine moves, then what crosses above enters and leaves. It answers what crossed.
+    pub fn edge(&mut self, plan: Plan, x: &Inputs) -> WriteEvents
+        ensures events { λ r. ⌜ r ≡ write-events plan (write-slots (now (self .entry))) (writes-view plan (now (self .entry))) (inputs-view plan (now (x .entry))) ⌝ }
+        ensures edged { λ _. ⌜ writes-view plan (now (self .exit)) ≡ writes-edged plan (write-slots (now (self .entry))) (writes-view plan (now (self .entry))) (inputs-view plan (now (x .entry))) ⌝ }
+        ensures kept { λ _. ⌜ write-slots (now (self .exit)) ≡ write-slots (now (self .entry)) ⌝ }
+    {
+        let events = self.events(plan, x);
+        self.step(plan, x);
+        self.cross(plan, events);
+        events
     }
 
     /// Empties the queues and stops the engine.
