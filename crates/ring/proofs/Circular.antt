@@ -9,7 +9,7 @@ use lib.Seq.{take-set-lt}
 use native.Mathlib.Omega.{arith}
 use native.Mathlib.Numerals.{add-one}
 use borrow.Author.Tests.{lt-ltb, le-ltb}
-use Rattle.std.proofs.shelf.Lists.{take-more-set, drop-more, drop-all, take-all, take-more, set-append-left, set-append-right, drop-set-add, drop-set-lt, take-set-le, take-append-le, nil-from-length}
+use Rattle.std.proofs.shelf.Lists.{take-more-set, drop-more, drop-all, take-all, take-more, set-append-left, set-append-right, drop-set-add, drop-set-lt, take-set-le, take-append-le, nil-from-length, getD-append-left, getD-append-right, getD-drop, getD-take}
 use Rattle.std.proofs.shelf.Tests.{cases-lt}
 use Rattle.std.proofs.shelf.Ways.{tells}
 use Rattle.ring.specs.Circular.{rotated, stored, first-slot, slot-after}
@@ -96,3 +96,23 @@ stored-less s h n d from m e f some =
     let low : from < length s = rw e (first-low h (length s) (omega arith)) in
     let less : m ≡ m - 1 + 1 = omega arith in
     stored-first s h n from m e f ∙ ap (stored s from) less ∙ stored-rest s from (m - 1) d low (omega arith)
+
+-- the entry that i others are older than stands i slots after the first
+rotated-at : {X : Type 0} (s : List X) (h i : ℕ) (d : X) → h ≤ length s → i < length s → getD (rotated s h) i d ≡ getD s (slot-after h i (length s)) d
+rotated-at s h i d l f =
+    let at = λ (t : Bool). getD s (cond t (h + i) (h + i - length s)) d in
+    let size : length (drop h s) ≡ length s - h = length-drop h s in
+    elim (cases-lt (h + i) (length s)) [
+      | inl b ↦ getD-append-left (drop h s) (take h s) d i (omega (arith, size)) ∙ getD-drop h s i d ∙ sym (ap at (lt-ltb (h + i) (length s) b))
+      | inr b ↦
+          let same : i - (length s - h) ≡ h + i - length s = omega arith in
+          getD-append-right (drop h s) (take h s) (length s - h) i d size (omega arith)
+          ∙ getD-take h s (i - (length s - h)) d (omega arith)
+          ∙ ap (λ k. getD s k d) same
+          ∙ sym (ap at (le-ltb (h + i) (length s) b))
+    ]
+
+pub stored-at : {X : Type 0} (s : List X) (h n i : ℕ) (d : X) (from m : ℕ) → from ≡ first-slot h (length s) → m ≡ min n (length s) → i < m → getD (stored s h n) i d ≡ getD s (slot-after from i (length s)) d
+stored-at s h n i d from m e f within =
+    let low : from ≤ length s = rw e (omega (arith, first-low h (length s) (omega arith))) in
+    ap (λ t. getD t i d) (stored-first s h n from m e f) ∙ getD-take m (rotated s from) i d within ∙ rotated-at s from i d low (omega arith)

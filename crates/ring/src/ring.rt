@@ -6,7 +6,7 @@
 //! Any values of the three fields are a queue: a `head` past the last slot stands for slot 0, and a `len` past the
 //! number of slots stands for that number. So no method has a precondition, and a queue never has more entries than
 //! slots.
-ghost use Prim.Native.Nat.{_+_, _-_, _<_, _≤_, min};
+ghost use Prim.Native.Nat.{ℕ, _+_, _-_, _<_, _≤_, min};
 ghost use Rattle.ring.specs.Circular.{stored, first-slot, slot-after, first};
 ghost use Rattle.ring.specs.Entries.{entries, slot-count};
 ghost use Rattle.std.specs.declared.option.Option.the-variants.{Some, None};
@@ -69,6 +69,22 @@ impl<'a, T: Copy> Ring<'a, T> {
         if len > 0 { Some(slots[head]) } else { None }
     }
 
+    /// Returns the entry that `i` others are older than, which stays in the queue.
+    ///
+    /// Returns `None` if there are no more than `i` entries.
+    pub fn get(&self, i: usize) -> Option<T>
+        ensures { λ r. ⌜ elim r [ Some x ↦ (i < length (entries (now (self .entry)))) × ((d : T) → x ≡ getD (entries (now (self .entry))) i d) | None ↦ length (entries (now (self .entry))) ≤ i ] ⌝ }
+    {
+        let slots: &[T] = &*self.slots;
+        let (head, len) = self.span();
+        if i < len {
+            let slot = slot_after(head, i, slots.len());
+            Some(slots[slot])
+        } else {
+            None
+        }
+    }
+
     /// Adds `entry` after the newest entry, and returns `true`.
     ///
     /// Returns `false` if the queue is full. The queue and its slots are then as they were.
@@ -124,6 +140,7 @@ impl<'a, T: Copy> Ring<'a, T> {
         ensures count { λ r. ⌜ r .1 ≡ length (entries (now (self .entry))) ⌝ }
         ensures within { λ r. ⌜ r .1 ≤ slot-count (now (self .entry)) ⌝ }
         ensures none { λ r. ⌜ (r .1 ≡ 0 → entries (now (self .entry)) ≡ []) ⌝ }
+        ensures each { λ r. ⌜ ((i : ℕ) (d : T) → i < r .1 → getD (entries (now (self .entry))) i d ≡ getD (now (now (self .entry) .slots)) (slot-after (r .0) i (slot-count (now (self .entry)))) d) ⌝ }
         ensures oldest { λ r. ⌜ ((d : T) → 0 < r .1 → entries (now (self .entry)) ≡ getD (now (now (self .entry) .slots)) (r .0) d ∷ stored (now (now (self .entry) .slots)) (r .0 + 1) (r .1 - 1)) ⌝ }
         ensures next { λ r. ⌜ ((x : T) → r .1 < slot-count (now (self .entry)) → stored (set (now (now (self .entry) .slots)) (slot-after (r .0) (r .1) (slot-count (now (self .entry)))) x) (r .0) (r .1 + 1) ≡ entries (now (self .entry)) ++ (x ∷ [])) ⌝ }
     {
