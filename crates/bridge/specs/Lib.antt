@@ -7,3 +7,5 @@ pub mod Writes
 pub mod WriteSides
 pub mod Reads
 pub mod ReadSides
+pub mod Reports
+pub mod Edges

@@ -1,18 +1,25 @@
 //! The read side: two queues and the read engine.
 ghost use Rattle.bridge.specs.Inputs.{inputs-view};
-ghost use Rattle.bridge.specs.Protocol.{judged};
+ghost use Rattle.bridge.specs.Protocol.{judged, no-read-beat};
 ghost use Rattle.bridge.specs.Queues.{when};
 ghost use Rattle.bridge.specs.ReadSides.{reads-view, read-slots, no-reads, reads-moved, reads-crossed, read-events, reads-edged};
 ghost use Rattle.ledgers.specs.Lists.{any};
 ghost use Rattle.ledgers.specs.OneByOne.{room};
+ghost use Rattle.ledgers.specs.Reader.{busy};
+ghost use Rattle.bridge.specs.Reads.{reader-view, reader-wires};
+ghost use Rattle.bridge.specs.Queues.{lasts-of};
+ghost use Rattle.ring.specs.Circular.{first};
 ghost use Rattle.ring.specs.Entries.{entries};
-ghost use lib.ListN.{length};
+ghost use Rattle.ledgers.specs.Lists.{one-if};
+ghost use Prim.Native.Nat.{ℕ, _+_, _<_, _≤_};
+ghost use lib.ListN.{length, getD};
 ghost use mathlib.Core.Bool.{_&&_};
 ghost use mathlib.Core.Path.{_≡_};
 use axi::plan::Plan;
 use axi::wires::Inputs;
 use axi::wires::ReadBeat;
 use crate::reader::Reader;
+use crate::reader::ReaderWires;
 use crate::taken::Taken;
 use ring::Ring;
 
@@ -74,7 +81,7 @@ impl<'a> ReadSide<'a> {
     }
 
     /// ARREADY: there is a slot for a burst.
-    fn takes_burst(&self) -> bool
+    pub fn takes_burst(&self) -> bool
         ensures { λ r. ⌜ r ≡ room (read-slots (now (self .entry)) .bursts) (entries (now (self .entry) .bursts)) ⌝ }
     {
         !self.bursts.is_full()
@@ -118,6 +125,50 @@ impl<'a> ReadSide<'a> {
         if let Some(taken) = events.ar {
             self.bursts.push(taken);
         }
+    }
+
+    /// The oldest beat that waits.
+    pub fn beat(&self) -> Option<ReadBeat>
+        ensures { λ r. ⌜ r ≡ first (entries (now (self .entry) .beats)) ⌝ }
+    {
+        self.beats.front()
+    }
+
+    /// The wires of the engine.
+    pub fn engine_wires(&self, plan: Plan) -> ReaderWires
+        ensures { λ r. ⌜ r ≡ reader-wires plan (now (self .entry) .reader) ⌝ }
+    {
+        self.reader.wires(plan)
+    }
+
+    /// How many beats that wait have LAST.
+    fn lasts(&self) -> usize
+        ensures { λ r. ⌜ r ≡ lasts-of (entries (now (self .entry) .beats)) ⌝ }
+    {
+        let mut count = 0;
+        for i in 0..self.beats.len() {
+            count += self.last_at(i);
+        }
+        count
+    }
+
+    /// 1 if the beat that `i` others are older than has LAST, else 0.
+    fn last_at(&self, i: usize) -> usize
+        ensures last { λ r. ⌜ (i < length (entries (now (self .entry) .beats)) → r ≡ one-if (getD (entries (now (self .entry) .beats)) i no-read-beat .last)) ⌝ }
+        ensures small { λ r. ⌜ r ≤ 1 ⌝ }
+    {
+        match self.beats.get(i) {
+            Some(beat) if beat.last => 1,
+            _ => 0,
+        }
+    }
+
+    /// The read bursts taken whose last beat has not crossed.
+    pub fn owed(&self) -> u128
+        ensures { λ r. ⌜ ((p : Plan) → r ≡ length (entries (now (self .entry) .bursts)) + busy (reader-view p (now (self .entry) .reader)) + lasts-of (entries (now (self .entry) .beats))) ⌝ }
+    {
+        let busy: u128 = if matches!(self.reader, Reader::Idle) { 0 } else { 1 };
+        self.bursts.len() as u128 + busy + self.lasts() as u128
     }
 
     /// One edge: the engine moves, then what crosses above enters and leaves. It answers what crossed.

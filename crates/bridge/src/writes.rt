@@ -5,7 +5,11 @@ ghost use Rattle.bridge.specs.Queues.{when};
 ghost use Rattle.bridge.specs.Protocol.{judged};
 ghost use Rattle.ledgers.specs.Lists.{any};
 ghost use Rattle.ledgers.specs.OneByOne.{room};
+ghost use Rattle.ledgers.specs.Writer.{busy};
+ghost use Rattle.bridge.specs.Writes.{writer-view, writer-wires};
+ghost use Rattle.ring.specs.Circular.{first};
 ghost use Rattle.ring.specs.Entries.{entries};
+ghost use Prim.Native.Nat.{_+_};
 ghost use mathlib.Core.Bool.{_&&_};
 ghost use lib.ListN.{length};
 ghost use mathlib.Core.Path.{_≡_};
@@ -18,6 +22,7 @@ use axi::wires::WriteAnswer;
 use crate::taken::Taken;
 use crate::task::Task;
 use crate::writer::Writer;
+use crate::writer::WriterWires;
 use ring::Ring;
 
 /// The write bursts and data beats that wait, the write answers that wait, and the engine between them.
@@ -44,7 +49,7 @@ impl<'a> WriteSide<'a> {
     }
 
     /// One move of the engine, by its state and the wires from below.
-    pub fn step(&mut self, plan: Plan, x: &Inputs)
+    fn step(&mut self, plan: Plan, x: &Inputs)
         ensures moved { λ _. ⌜ writes-view plan (now (self .exit)) ≡ writes-moved plan (write-slots (now (self .entry))) (writes-view plan (now (self .entry))) (inputs-view plan (now (x .entry))) ⌝ }
         ensures kept { λ _. ⌜ write-slots (now (self .exit)) ≡ write-slots (now (self .entry)) ⌝ }
     {
@@ -75,14 +80,14 @@ impl<'a> WriteSide<'a> {
     }
 
     /// AWREADY: there is a slot for a burst.
-    fn takes_burst(&self) -> bool
+    pub fn takes_burst(&self) -> bool
         ensures { λ r. ⌜ r ≡ room (write-slots (now (self .entry)) .bursts) (entries (now (self .entry) .bursts)) ⌝ }
     {
         !self.bursts.is_full()
     }
 
     /// WREADY: there is a slot for a data beat.
-    fn takes_beat(&self) -> bool
+    pub fn takes_beat(&self) -> bool
         ensures { λ r. ⌜ r ≡ room (write-slots (now (self .entry)) .beats) (entries (now (self .entry) .beats)) ⌝ }
     {
         !self.beats.is_full()
@@ -138,6 +143,28 @@ impl<'a> WriteSide<'a> {
         if let Some(beat) = events.w {
             self.beats.push(beat);
         }
+    }
+
+    /// The oldest answer that waits.
+    pub fn answer(&self) -> Option<WriteAnswer>
+        ensures { λ r. ⌜ r ≡ first (entries (now (self .entry) .answers)) ⌝ }
+    {
+        self.answers.front()
+    }
+
+    /// The wires of the engine.
+    pub fn engine_wires(&self, plan: Plan) -> WriterWires
+        ensures { λ r. ⌜ r ≡ writer-wires plan (now (self .entry) .writer) ⌝ }
+    {
+        self.writer.wires(plan)
+    }
+
+    /// The write bursts taken and not yet answered.
+    pub fn owed(&self) -> u128
+        ensures { λ r. ⌜ ((p : Plan) → r ≡ length (entries (now (self .entry) .bursts)) + busy (writer-view p (now (self .entry) .writer)) + length (entries (now (self .entry) .answers))) ⌝ }
+    {
+        let busy: u128 = if matches!(self.writer, Writer::Idle) { 0 } else { 1 };
+        self.bursts.len() as u128 + busy + self.answers.len() as u128
     }
 
     /// One edge: the engine moves, then what crosses above enters and leaves. It answers what crossed.

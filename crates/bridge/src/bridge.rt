@@ -1,0 +1,74 @@
+//! The whole bridge: both sides, edge by edge.
+ghost use Rattle.axi.specs.Checks.{refused-inputs};
+ghost use Rattle.bridge.specs.Edges.{settings, Accepted, writes-after, reads-after, edge-report};
+ghost use Rattle.bridge.specs.ReadSides.{reads-view, no-reads};
+ghost use Rattle.bridge.specs.Reports.{no-report};
+ghost use Rattle.bridge.specs.WriteSides.{writes-view, no-writes};
+ghost use Rattle.std.specs.declared.option.Option.the-variants.{Some, None};
+ghost use Rattle.std.specs.declared.result.Result.the-variants.{Ok, Err};
+ghost use lib.ListN.{length};
+ghost use mathlib.Core.Path.{_≡_};
+use axi::parts::Beat;
+use axi::plan::Plan;
+use axi::wires::Inputs;
+use axi::wires::ReadBeat;
+use axi::wires::Refusal;
+use axi::wires::WriteAnswer;
+use crate::reads::ReadSide;
+use crate::report::Report;
+use crate::taken::Taken;
+use crate::writes::WriteSide;
+
+/// The five tables that the bench lends, with any number of slots each.
+#[derive(Drop)]
+pub struct Tables<'a> {
+    pub write_bursts: &'a mut [Taken],
+    pub data_beats: &'a mut [Beat],
+    pub write_answers: &'a mut [WriteAnswer],
+    pub read_bursts: &'a mut [Taken],
+    pub read_beats: &'a mut [ReadBeat],
+}
+
+/// A bridge of a plan, over the bench's tables.
+#[derive(Drop)]
+pub struct Bridge<'a> {
+    plan: Plan,
+    writes: WriteSide<'a>,
+    reads: ReadSide<'a>,
+}
+
+impl<'a> Bridge<'a> {
+    /// An edge with ARESETn high and wires that fit.
+    fn run(&mut self, x: &Inputs) -> Report
+        ensures report { λ r. ⌜ r ≡ edge-report (now (self .entry)) (now (x .entry)) ⌝ }
+        ensures writes { λ _. ⌜ writes-view (now (self .entry) .plan) (now (self .exit) .writes) ≡ writes-after (now (self .entry)) (now (x .entry)) ⌝ }
+        ensures reads { λ _. ⌜ reads-view (now (self .entry) .plan) (now (self .exit) .reads) ≡ reads-after (now (self .entry)) (now (x .entry)) ⌝ }
+        ensures kept { λ _. ⌜ settings (now (self .exit)) ≡ settings (now (self .entry)) ⌝ }
+    {
+        let writes = self.writes.edge(self.plan, x);
+        let reads = self.reads.edge(self.plan, x);
+        Report::new(self.plan, writes, reads)
+    }
+
+    /// An edge with ARESETn low.
+    fn reset(&mut self) -> Report
+        ensures report { λ r. ⌜ r ≡ no-report ⌝ }
+        ensures writes { λ _. ⌜ writes-view (now (self .entry) .plan) (now (self .exit) .writes) ≡ no-writes (now (self .entry) .plan) ⌝ }
+        ensures reads { λ _. ⌜ reads-view (now (self .entry) .plan) (now (self .exit) .reads) ≡ no-reads (now (self .entry) .plan) ⌝ }
+        ensures kept { λ _. ⌜ settings (now (self .exit)) ≡ settings (now (self .entry)) ⌝ }
+    {
+        self.writes.reset();
+        self.reads.reset();
+        Report::nothing()
+    }
+
+    /// One edge: refused, a reset, or both sides move.
+    fn advance(&mut self, x: &Inputs) -> Result<Report, Refusal>
+        ensures result { λ r. ⌜ elim r [ Ok report ↦ Accepted (now (self .entry)) (now (x .entry)) report (now (self .exit)) | Err e ↦ (refused-inputs (now (self .entry) .plan) (now (x .entry)) ≡ Some e) × (now (self .exit) ≡ now (self .entry)) ] ⌝ }
+    {
+        if let Some(refusal) = self.plan.check(x) {
+            return Err(refusal);
+        }
+        Ok(if x.aresetn { self.run(x) } else { self.reset() })
+    }
+}
