@@ -1,10 +1,13 @@
 -- One edge of the whole bridge, side by side.
 use mathlib.Core.Bool.{cond}
 use mathlib.Core.Path.{_≡_}
-use Rattle.std.specs.declared.option.Option.the-variants.{None}
+use Rattle.std.specs.declared.option.Option.the-variants.{Some, None}
+use Rattle.std.specs.declared.result.Result.{Result}
+use Rattle.std.specs.declared.result.Result.the-variants.{Ok, Err}
 use Rattle.axi.specs.Checks.{refused-inputs}
 use Rattle.axi.specs.declared.plan.Plan.{Plan}
 use Rattle.axi.specs.declared.wires.Inputs.{Inputs}
+use Rattle.axi.specs.declared.wires.Refusal.{Refusal}
 use Rattle.bridge.specs.Inputs.{inputs-view}
 use Rattle.bridge.specs.Reports.{report-of-events, no-report}
 use Rattle.bridge.specs.WriteSides.{Writes, Write-slots, writes-view, write-slots, write-events, writes-edged, no-writes}
@@ -42,3 +45,8 @@ pub record Accepted (b : Bridge) (x : Inputs) (told : Report) (after : Bridge) :
   pub writes : writes-view (b .plan) (after .writes) ≡ cond (x .aresetn) (writes-after b x) (no-writes (b .plan))
   pub reads : reads-view (b .plan) (after .reads) ≡ cond (x .aresetn) (reads-after b x) (no-reads (b .plan))
   pub kept : settings after ≡ settings b
+
+-- an edge from bridge b to bridge t: accepted, or refused for this reason and nothing altered
+abbrev pub Outcome : Bridge → Inputs → Bridge → Result Report Refusal → Type 0
+Outcome b x t (Ok told) = Accepted b x told t
+Outcome b x t (Err e) = (refused-inputs (b .plan) x ≡ Some e) × (t ≡ b)

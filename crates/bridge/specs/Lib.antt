@@ -9,3 +9,4 @@ pub mod Reads
 pub mod ReadSides
 pub mod Reports
 pub mod Edges
+pub mod Machines

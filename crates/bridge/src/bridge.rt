@@ -1,11 +1,9 @@
 //! The whole bridge: both sides, edge by edge.
-ghost use Rattle.axi.specs.Checks.{refused-inputs};
-ghost use Rattle.bridge.specs.Edges.{settings, Accepted, writes-after, reads-after, edge-report};
+ghost use Rattle.bridge.specs.Edges.{settings, Outcome, writes-after, reads-after, edge-report};
+ghost use Rattle.bridge.specs.Machines.{seen, Keeps, edge-call, after-edge, Answered};
 ghost use Rattle.bridge.specs.ReadSides.{reads-view, no-reads};
 ghost use Rattle.bridge.specs.Reports.{no-report};
 ghost use Rattle.bridge.specs.WriteSides.{writes-view, no-writes};
-ghost use Rattle.std.specs.declared.option.Option.the-variants.{Some, None};
-ghost use Rattle.std.specs.declared.result.Result.the-variants.{Ok, Err};
 ghost use lib.ListN.{length};
 ghost use mathlib.Core.Path.{_≡_};
 use axi::parts::Beat;
@@ -64,11 +62,24 @@ impl<'a> Bridge<'a> {
 
     /// One edge: refused, a reset, or both sides move.
     fn advance(&mut self, x: &Inputs) -> Result<Report, Refusal>
-        ensures result { λ r. ⌜ elim r [ Ok report ↦ Accepted (now (self .entry)) (now (x .entry)) report (now (self .exit)) | Err e ↦ (refused-inputs (now (self .entry) .plan) (now (x .entry)) ≡ Some e) × (now (self .exit) ≡ now (self .entry)) ] ⌝ }
+        ensures { λ r. ⌜ Outcome (now (self .entry)) (now (x .entry)) (now (self .exit)) r ⌝ }
     {
         if let Some(refusal) = self.plan.check(x) {
             return Err(refusal);
         }
         Ok(if x.aresetn { self.run(x) } else { self.reset() })
+    }
+
+    /// One rising edge.
+    ///
+    /// With ARESETn low it empties all queues and stops both engines. Otherwise a field that is too large under its VALID refuses the
+    /// edge, and the bridge and its tables stay as they were; else every channel with VALID and READY both high crosses.
+    pub fn edge(&mut self, x: &Inputs) -> Result<Report, Refusal>
+        ensures result { λ r. ⌜ Answered (now (self .entry)) (now (x .entry)) (now (self .exit)) r ⌝ }
+        ensures moved { λ _. ⌜ seen (now (self .entry) .plan) (now (self .exit)) ≡ after-edge (now (self .entry)) (now (x .entry)) ⌝ }
+        ensures kept { λ _. ⌜ settings (now (self .exit)) ≡ settings (now (self .entry)) ⌝ }
+        ensures promise { λ _. ⌜ Keeps (now (self .entry)) (edge-call (now (self .entry)) (now (x .entry))) (now (self .exit)) ⌝ }
+    {
+        self.advance(x)
     }
 }
