@@ -4,11 +4,14 @@ ghost use Rattle.axi.specs.Parts.{further};
 ghost use Rattle.bridge.specs.Protocol.{judged, cut-at};
 ghost use mathlib.Core.Path.{_≡_};
 use axi::burst::Burst;
+use axi::code::Code;
 use axi::parts::Beat;
 use axi::parts::Parts;
 use axi::parts::Place;
 use axi::plan::Plan;
 use axi::verdict::Verdict;
+use axi::wires::ReadBeat;
+use axi::wires::WriteAnswer;
 
 /// A burst that was taken above, with the verdict that it was given on that edge.
 #[derive(Clone, Copy)]
@@ -22,6 +25,17 @@ pub const NO_PLACE: Place = Place { addr: 0, prot: 0 };
 
 /// The payload of LW under a low VALID.
 pub const NO_BEAT: Beat = Beat { wdata: 0, wstrb: 0 };
+
+/// The payload of B under a low VALID.
+pub const NO_ANSWER: WriteAnswer = WriteAnswer { id: 0, code: Code::Okay };
+
+/// The payload of R under a low VALID.
+pub const NO_READ_BEAT: ReadBeat = ReadBeat {
+    id: 0,
+    rdata: 0,
+    code: Code::Okay,
+    last: false,
+};
 
 impl Taken {
     /// The burst with the verdict that the plan gives it.
