@@ -69,10 +69,11 @@ one-part FourOverFour v a d =
     ap (λ f. word (carried f 4 d (λ k. 0)) 8) e ∙ low-four d ∙ sym (ap (λ f. d % 2 ^ 32 * 2 ^ (8 * f)) e)
 one-part EightOverFour v a d =
     elim (cases-lt (a % 8) 4) [
-      inl h ↦ let e : a % 8 - a % 4 ≡ 0 = omega arith in
-        ap (λ f. word (carried f 4 d (λ k. 0)) 8) e ∙ low-four d ∙ sym (ap (λ f. d % 2 ^ 32 * 2 ^ (8 * f)) e)
-    | inr h ↦ let e : a % 8 - a % 4 ≡ 4 = omega arith in
-        ap (λ f. word (carried f 4 d (λ k. 0)) 8) e ∙ high-four d ∙ sym (ap (λ f. d % 2 ^ 32 * 2 ^ (8 * f)) e) ]
+      | inl h ↦ let e : a % 8 - a % 4 ≡ 0 = omega arith in
+          ap (λ f. word (carried f 4 d (λ k. 0)) 8) e ∙ low-four d ∙ sym (ap (λ f. d % 2 ^ 32 * 2 ^ (8 * f)) e)
+      | inr h ↦ let e : a % 8 - a % 4 ≡ 4 = omega arith in
+          ap (λ f. word (carried f 4 d (λ k. 0)) 8) e ∙ high-four d ∙ sym (ap (λ f. d % 2 ^ 32 * 2 ^ (8 * f)) e)
+    ]
 one-part EightOverEight v a d =
     let e : a % 8 - a % 8 ≡ 0 = omega arith in
     ap (λ f. word (carried f 8 d (λ k. 0)) 8) e ∙ all-eight d ∙ sym (ap (λ f. d % 2 ^ 64 * 2 ^ (8 * f)) e)
@@ -113,10 +114,11 @@ eight-over-four : (v : Level) (a : ℕ) → Lane-by-lane (record { widths = Eigh
 eight-over-four v a =
     let p : Plan = record { widths = EightOverFour; level = v } in
     elim (cases-lt (a % 8) 4) [
-      inl h ↦ let one : (down a 8 + 8 - 1) / 4 - a / 4 ≡ 1 = omega arith in
-        subst (λ k. Lane-by-lane p (a ∷ row k (down a 4 + 4) 4)) (sym one) (pair v a h)
-    | inr h ↦ let none : (down a 8 + 8 - 1) / 4 - a / 4 ≡ 0 = omega arith in
-        subst (λ k. Lane-by-lane p (a ∷ row k (down a 4 + 4) 4)) (sym none) (alone p a) ]
+      | inl h ↦ let one : (down a 8 + 8 - 1) / 4 - a / 4 ≡ 1 = omega arith in
+          subst (λ k. Lane-by-lane p (a ∷ row k (down a 4 + 4) 4)) (sym one) (pair v a h)
+      | inr h ↦ let none : (down a 8 + 8 - 1) / 4 - a / 4 ≡ 0 = omega arith in
+          subst (λ k. Lane-by-lane p (a ∷ row k (down a 4 + 4) 4)) (sym none) (alone p a)
+    ]
 
 -- eight is the one power of two above four and not above eight
 only-eight : (k : ℕ) → k ≤ 8 → 4 < 2 ^ k → 2 ^ k ≤ 8 → 2 ^ k ≡ 8
@@ -143,8 +145,9 @@ wide EightOverFour v s a k h f =
 pub data-lane-by-lane : (p : Plan) (b : Burst) (a : ℕ) → verdict-of p b ≡ Forwarded → Lane-by-lane p (places p (bytes b) a)
 data-lane-by-lane p b a e =
     elim (cases-lt (lower-bytes p) (bytes b)) [
-      inl h ↦ wide (p .widths) (p .level) (bytes b) a (bytes-power b) (within-upper p b e) h
-    | inr h ↦ single p (bytes b) a h ]
+      | inl h ↦ wide (p .widths) (p .level) (bytes b) a (bytes-power b) (within-upper p b e) h
+      | inr h ↦ single p (bytes b) a h
+    ]
 
 -- the code of joined answers is the first error among the parts' codes
 codes-joined : (p : Plan) (ats : List ℕ) (rs : List LowerRead) → total no-read join-reads (part-answers p ats rs) .code ≡ total Okay join-codes (part-codes ats rs)

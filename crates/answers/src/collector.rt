@@ -3,9 +3,9 @@ ghost use Rattle.answers.specs.Join.{total};
 ghost use Rattle.answers.specs.FirstError.{first-error};
 ghost use mathlib.Core.List.{List, [], _++_, _∷_};
 ghost use mathlib.Core.Path.{_≡_};
-use axi::code::Code;
 use crate::answer::Answer;
 use crate::answer::CodeAnswer;
+use axi::code::Code;
 
 /// The join of all answers added so far: those of a beat's parts, or those of a burst's parts.
 #[derive(Clone, Copy)]

@@ -116,13 +116,13 @@ beat-at : (p : Plan) (x : Burst) (a : ℕ) (rs : List LowerRead) (last t : Bool)
     let ps = map (place x) (cond t (places p (bytes x) a) []) in
     covers (length ps) rs ≡ true →
     _≡_ {A = ReadBeat}
-      (record {
-        id = x .id;
-        rdata = word (on-lane p (map (λ (q : Place). q .addr) ps) rs) 8;
-        code = cond t (first-error (part-codes (map (λ (q : Place). q .addr) ps) rs)) SlvErr;
-        last = last;
-      })
-      (record { id = x .id; rdata = gather (joining p .reads) ps rs .rdata; code = cond t (gather (joining p .reads) ps rs .code) SlvErr; last = last })
+    (record {
+      id = x .id;
+      rdata = word (on-lane p (map (λ (q : Place). q .addr) ps) rs) 8;
+      code = cond t (first-error (part-codes (map (λ (q : Place). q .addr) ps) rs)) SlvErr;
+      last = last;
+    })
+    (record { id = x .id; rdata = gather (joining p .reads) ps rs .rdata; code = cond t (gather (joining p .reads) ps rs .code) SlvErr; last = last })
 unfolding with-last
 beat-at p x a rs last false e h = refl
 beat-at p x a rs last true e h =

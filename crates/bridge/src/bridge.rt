@@ -8,6 +8,12 @@ ghost use Rattle.bridge.specs.Reports.{no-report};
 ghost use Rattle.bridge.specs.WriteSides.{writes-view, no-writes};
 ghost use lib.ListN.{length};
 ghost use mathlib.Core.Path.{_≡_};
+use crate::reads::ReadSide;
+use crate::report::Report;
+use crate::taken::NO_ANSWER;
+use crate::taken::NO_READ_BEAT;
+use crate::taken::Taken;
+use crate::writes::WriteSide;
 use axi::parts::Beat;
 use axi::plan::Plan;
 use axi::wires::Inputs;
@@ -15,12 +21,6 @@ use axi::wires::Outputs;
 use axi::wires::ReadBeat;
 use axi::wires::Refusal;
 use axi::wires::WriteAnswer;
-use crate::reads::ReadSide;
-use crate::report::Report;
-use crate::taken::NO_ANSWER;
-use crate::taken::NO_READ_BEAT;
-use crate::taken::Taken;
-use crate::writes::WriteSide;
 
 /// The five tables that the bench lends, with any number of slots each.
 #[derive(Drop)]

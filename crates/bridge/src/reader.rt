@@ -10,6 +10,10 @@ ghost use Rattle.ledgers.specs.Due.{is-last};
 ghost use Rattle.ledgers.specs.Reader.{next-beat, with-parts, start-beat};
 ghost use mathlib.Core.List.{map};
 ghost use mathlib.Core.Path.{_≡_};
+use crate::taken::NO_PLACE;
+use crate::taken::Taken;
+use crate::taken::parts_after;
+use crate::task::Task;
 use answers::collector::Collector;
 use answers::read::ReadAnswer;
 use answers::read::ReadAnswerAnswer;
@@ -19,10 +23,6 @@ use axi::parts::Place;
 use axi::plan::Plan;
 use axi::wires::LowerRead;
 use axi::wires::ReadBeat;
-use crate::taken::NO_PLACE;
-use crate::taken::Taken;
-use crate::taken::parts_after;
-use crate::task::Task;
 
 /// What the read engine does.
 #[derive(Clone, Copy)]
@@ -66,14 +66,19 @@ impl Task<ReadAnswer> {
     pub fn next_read_beat(self, plan: Plan) -> Reader
         ensures { λ r. ⌜ reader-view plan r ≡ next-beat (pieces plan) (joining plan) (task-burst self) (self .walk .count) ⌝ }
     {
-        if self.walk.is_empty() { Reader::Idle } else { self.start_beat(plan) }
+        if self.walk.is_empty() {
+            Reader::Idle
+        } else {
+            self.start_beat(plan)
+        }
     }
 
     /// The block's answer to a part is joined, and the next part follows.
     pub fn answer_part(self, plan: Plan, parts: Parts, lr: LowerRead) -> Reader
         ensures { λ r. ⌜ reader-view plan r ≡ with-parts (pieces plan) (joining plan) (task-burst self) (self .walk .count) (join-reads (task-sum self) (part-answer plan (parts .at) lr)) (map (place (self .walk .burst)) (further plan (parts .at) (parts .more))) ⌝ }
     {
-        self.join(ReadAnswer::of_part(plan, parts.at, lr)).with_read_parts(plan, parts_after(plan, parts))
+        self.join(ReadAnswer::of_part(plan, parts.at, lr))
+            .with_read_parts(plan, parts_after(plan, parts))
     }
 
     /// The beat that R is to carry: SLVERR where the burst was refused, LAST on its last beat only.
@@ -84,7 +89,11 @@ impl Task<ReadAnswer> {
         ReadBeat {
             id: self.walk.burst.id,
             rdata: sum.rdata,
-            code: if self.verdict.is_forwarded() { sum.code } else { Code::SlvErr },
+            code: if self.verdict.is_forwarded() {
+                sum.code
+            } else {
+                Code::SlvErr
+            },
             last: self.walk.is_empty(),
         }
     }

@@ -15,12 +15,12 @@ ghost use Prim.Native.Nat.{ℕ, _+_, _<_, _≤_};
 ghost use lib.ListN.{length, getD};
 ghost use mathlib.Core.Bool.{_&&_};
 ghost use mathlib.Core.Path.{_≡_};
-use axi::plan::Plan;
-use axi::wires::Inputs;
-use axi::wires::ReadBeat;
 use crate::reader::Reader;
 use crate::reader::ReaderWires;
 use crate::taken::Taken;
+use axi::plan::Plan;
+use axi::wires::Inputs;
+use axi::wires::ReadBeat;
 use ring::Ring;
 
 /// The read bursts that wait, the read beats that wait, and the engine between them.
@@ -98,7 +98,11 @@ impl<'a> ReadSide<'a> {
     fn burst_taken(&self, plan: Plan, x: &Inputs) -> Option<Taken>
         ensures { λ r. ⌜ r ≡ when (now (x .entry) .arvalid && room (read-slots (now (self .entry)) .bursts) (entries (now (self .entry) .bursts))) (judged plan (now (x .entry) .ar)) ⌝ }
     {
-        if x.arvalid & self.takes_burst() { Some(Taken::new(plan, x.ar)) } else { None }
+        if x.arvalid & self.takes_burst() {
+            Some(Taken::new(plan, x.ar))
+        } else {
+            None
+        }
     }
 
     /// What crosses on an edge with these wires, before anything moves.
@@ -167,7 +171,11 @@ impl<'a> ReadSide<'a> {
     pub fn owed(&self) -> u128
         ensures { λ r. ⌜ ((p : Plan) → r ≡ length (entries (now (self .entry) .bursts)) + busy (reader-view p (now (self .entry) .reader)) + lasts-of (entries (now (self .entry) .beats))) ⌝ }
     {
-        let busy: u128 = if matches!(self.reader, Reader::Idle) { 0 } else { 1 };
+        let busy: u128 = if matches!(self.reader, Reader::Idle) {
+            0
+        } else {
+            1
+        };
         self.bursts.len() as u128 + busy + self.lasts() as u128
     }
 

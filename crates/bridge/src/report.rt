@@ -1,11 +1,11 @@
 //! What an edge's result names.
 ghost use Rattle.bridge.specs.Reports.{report-of-events, no-report, both-verdicts};
 ghost use mathlib.Core.Path.{_≡_};
-use axi::plan::Plan;
-use axi::verdict::Verdict;
 use crate::reads::ReadEvents;
 use crate::taken::Taken;
 use crate::writes::WriteEvents;
+use axi::plan::Plan;
+use axi::verdict::Verdict;
 
 /// The channels that crossed on an edge.
 #[derive(Clone, Copy)]

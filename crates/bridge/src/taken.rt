@@ -27,7 +27,10 @@ pub const NO_PLACE: Place = Place { addr: 0, prot: 0 };
 pub const NO_BEAT: Beat = Beat { wdata: 0, wstrb: 0 };
 
 /// The payload of B under a low VALID.
-pub const NO_ANSWER: WriteAnswer = WriteAnswer { id: 0, code: Code::Okay };
+pub const NO_ANSWER: WriteAnswer = WriteAnswer {
+    id: 0,
+    code: Code::Okay,
+};
 
 /// The payload of R under a low VALID.
 pub const NO_READ_BEAT: ReadBeat = ReadBeat {

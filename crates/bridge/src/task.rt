@@ -4,13 +4,13 @@ ghost use Rattle.axi.specs.Bursts.{beats};
 ghost use Rattle.bridge.specs.Protocol.{place};
 ghost use Rattle.bridge.specs.Tasks.{task-burst, task-sum};
 ghost use mathlib.Core.Path.{_≡_};
+use crate::taken::Taken;
 use answers::answer::Answer;
 use answers::collector::Collector;
 use answers::collector::CollectorClone;
 use axi::parts::Place;
 use axi::verdict::Verdict;
 use axi::walk::Walk;
-use crate::taken::Taken;
 
 /// A burst under way: its beats to come, its verdict, and what was collected of the block's answers.
 #[derive(Clone, Copy)]

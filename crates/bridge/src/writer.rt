@@ -10,6 +10,10 @@ ghost use Rattle.answers.specs.Join.{join-codes};
 ghost use mathlib.Core.List.{[], _∷_, map};
 ghost use mathlib.Core.Bool.{false};
 ghost use mathlib.Core.Path.{_≡_};
+use crate::taken::NO_BEAT;
+use crate::taken::NO_PLACE;
+use crate::taken::parts_after;
+use crate::task::Task;
 use answers::answer::CodeAnswer;
 use axi::code::Code;
 use axi::parts::Beat;
@@ -17,10 +21,6 @@ use axi::parts::Parts;
 use axi::parts::Place;
 use axi::plan::Plan;
 use axi::wires::WriteAnswer;
-use crate::taken::NO_BEAT;
-use crate::taken::NO_PLACE;
-use crate::task::Task;
-use crate::taken::parts_after;
 
 /// The part at hand of a data beat.
 #[derive(Clone, Copy)]
@@ -79,7 +79,8 @@ impl Task<Code> {
     pub fn answer(self, plan: Plan, part: Part, lbresp: u8) -> Writer
         ensures { λ r. ⌜ writer-view plan r ≡ with-parts (pieces plan) (joining plan) (task-burst self) (self .walk .count) (join-codes (task-sum self) (read-code lbresp)) (parts-after plan self part) ⌝ }
     {
-        self.join(Code::read(lbresp)).with_parts(plan, part.beat, parts_after(plan, part.parts))
+        self.join(Code::read(lbresp))
+            .with_parts(plan, part.beat, parts_after(plan, part.parts))
     }
 
     /// What crossed of a part: it is offered on, or it waits for its response.
@@ -99,7 +100,11 @@ impl Task<Code> {
     {
         WriteAnswer {
             id: self.walk.burst.id,
-            code: if self.verdict.is_forwarded() { self.sum.sum() } else { Code::SlvErr },
+            code: if self.verdict.is_forwarded() {
+                self.sum.sum()
+            } else {
+                Code::SlvErr
+            },
         }
     }
 }
@@ -122,9 +127,17 @@ impl Writer {
         match self {
             Writer::Send(task, part, law, lw) => WriterWires {
                 lawvalid: !law,
-                law: if law { NO_PLACE } else { task.place(part.parts.at) },
+                law: if law {
+                    NO_PLACE
+                } else {
+                    task.place(part.parts.at)
+                },
                 lwvalid: !lw,
-                lw: if lw { NO_BEAT } else { plan.write_part(part.parts.at, part.beat) },
+                lw: if lw {
+                    NO_BEAT
+                } else {
+                    plan.write_part(part.parts.at, part.beat)
+                },
                 lbready: false,
             },
             Writer::Await(_, _) => silent(true),

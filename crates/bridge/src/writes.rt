@@ -13,16 +13,16 @@ ghost use Prim.Native.Nat.{_+_};
 ghost use mathlib.Core.Bool.{_&&_};
 ghost use lib.ListN.{length};
 ghost use mathlib.Core.Path.{_≡_};
+use crate::taken::Taken;
+use crate::task::Task;
+use crate::writer::Writer;
+use crate::writer::WriterWires;
 use answers::answer::CodeAnswer;
 use axi::code::Code;
 use axi::parts::Beat;
 use axi::plan::Plan;
 use axi::wires::Inputs;
 use axi::wires::WriteAnswer;
-use crate::taken::Taken;
-use crate::task::Task;
-use crate::writer::Writer;
-use crate::writer::WriterWires;
 use ring::Ring;
 
 /// The write bursts and data beats that wait, the write answers that wait, and the engine between them.
@@ -36,7 +36,11 @@ pub struct WriteSide<'a> {
 
 impl<'a> WriteSide<'a> {
     /// Empty queues in the slots that are lent, and an idle engine.
-    pub fn new(bursts: &'a mut [Taken], beats: &'a mut [Beat], answers: &'a mut [WriteAnswer]) -> Self
+    pub fn new(
+        bursts: &'a mut [Taken],
+        beats: &'a mut [Beat],
+        answers: &'a mut [WriteAnswer],
+    ) -> Self
         ensures empty { λ r. ⌜ ((p : Plan) → writes-view p r ≡ no-writes p) ⌝ }
         ensures slots { λ r. ⌜ write-slots r ≡ record { bursts = length (now (bursts .entry)); beats = length (now (beats .entry)); answers = length (now (answers .entry)) } ⌝ }
     {
@@ -104,14 +108,22 @@ impl<'a> WriteSide<'a> {
     fn burst_taken(&self, plan: Plan, x: &Inputs) -> Option<Taken>
         ensures { λ r. ⌜ r ≡ when (now (x .entry) .awvalid && room (write-slots (now (self .entry)) .bursts) (entries (now (self .entry) .bursts))) (judged plan (now (x .entry) .aw)) ⌝ }
     {
-        if x.awvalid & self.takes_burst() { Some(Taken::new(plan, x.aw)) } else { None }
+        if x.awvalid & self.takes_burst() {
+            Some(Taken::new(plan, x.aw))
+        } else {
+            None
+        }
     }
 
     /// The data beat that crosses above.
     fn beat_taken(&self, x: &Inputs) -> Option<Beat>
         ensures { λ r. ⌜ r ≡ when (now (x .entry) .wvalid && room (write-slots (now (self .entry)) .beats) (entries (now (self .entry) .beats))) (now (x .entry) .w) ⌝ }
     {
-        if x.wvalid & self.takes_beat() { Some(x.w) } else { None }
+        if x.wvalid & self.takes_beat() {
+            Some(x.w)
+        } else {
+            None
+        }
     }
 
     /// What crosses on an edge with these wires, before anything moves.
@@ -163,7 +175,11 @@ impl<'a> WriteSide<'a> {
     pub fn owed(&self) -> u128
         ensures { λ r. ⌜ ((p : Plan) → r ≡ length (entries (now (self .entry) .bursts)) + busy (writer-view p (now (self .entry) .writer)) + length (entries (now (self .entry) .answers))) ⌝ }
     {
-        let busy: u128 = if matches!(self.writer, Writer::Idle) { 0 } else { 1 };
+        let busy: u128 = if matches!(self.writer, Writer::Idle) {
+            0
+        } else {
+            1
+        };
         self.bursts.len() as u128 + busy + self.answers.len() as u128
     }
 

@@ -12,9 +12,10 @@ use Rattle.bridge.proofs.reads.ReadSide.lasts.Needs as need
 pub loop-i-again : need.loop-i-again
 loop-i-again c =
     let xs = entries (c .args .self .now .beats) in
-    let h : c .loop-i .i < length xs = omega (arith, c .len-i-end .ensures .count) in
-    (omega (arith, c .last-at-count .ensures .small),
-      ap₂ (λ a b. a + b) (c .loop-i .inv .1) (c .last-at-count .ensures .last h) ∙ sym (lasts-more xs (c .loop-i .i) no-read-beat h))
+    let h : c .loop-i .i < length xs = omega (arith, c .len-i-end .ensures .count) in (
+      omega (arith, c .last-at-count .ensures .small),
+      ap₂ (λ a b. a + b) (c .loop-i .inv .1) (c .last-at-count .ensures .last h) ∙ sym (lasts-more xs (c .loop-i .i) no-read-beat h),
+    )
 
 pub returns : need.returns
 returns c =
