@@ -8,8 +8,8 @@ use lib.Bits.{bitOr, or-zero-r, or-shifted-r}
 use lib.Dec.{leb, ltb}
 use lib.ListN.{length}
 use native.Mathlib.Omega.{arith}
-use Rattle.std.proofs.shelf.Ways.{leb-tells, tells}
-use Rattle.std.proofs.shelf.Tests.{cases-lt}
+use Rattle.std.proofs.shelf.Ways.{tells}
+use Rattle.std.proofs.shelf.Tests.{cases-lt, ltb-false}
 use Rattle.axi.specs.Plans.{upper-bytes, lower-bytes}
 use Rattle.axi.specs.declared.plan.Level.{Level}
 use Rattle.axi.specs.declared.plan.Widths.{Widths}
@@ -59,7 +59,7 @@ second false true rest e = let z : _≡_ {A = ℕ} 0 1 = cc in absurd (omega ari
 second false false rest e = refl
 
 pub within-upper : (p : Plan) (b : Burst) → verdict-of p b ≡ Forwarded → bytes b ≤ upper-bytes p
-within-upper p b e = let t : ltb (upper-bytes p) (bytes b) ≡ false = second _ _ _ e in grind (arith, tells)
+within-upper p b e = ltb-false (upper-bytes p) (bytes b) (second _ _ _ e)
 
 -- the one part of a beat, joined with nothing
 one-part : (w : Widths) (v : Level) (a d : ℕ) → let p : Plan = record { widths = w; level = v } in

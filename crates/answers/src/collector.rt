@@ -1,5 +1,5 @@
 //! One text that collects every kind of answer.
-ghost use Rattle.answers.specs.Join.{total};
+ghost use Rattle.answers.specs.Join.{total, join-codes};
 ghost use Rattle.answers.specs.FirstError.{first-error};
 ghost use mathlib.Core.List.{List, [], _++_, _∷_};
 ghost use mathlib.Core.Path.{_≡_};
@@ -28,8 +28,15 @@ impl<R: Answer + Copy> Collector<R> {
         ensures total { λ r. ⌜ ((so-far : List R) → self .sum ≡ Rattle.answers.specs.Join.total none joined so-far → r .sum ≡ Rattle.answers.specs.Join.total none joined (so-far ++ (a ∷ []))) ⌝ }
     {
         Collector {
-            sum: self.sum.join(a),
+            sum: self.sum_with(a),
         }
+    }
+
+    /// What was collected, and this answer behind it.
+    fn sum_with(self, a: R) -> R
+        ensures { λ r. ⌜ r ≡ R·Answer .joined (self .sum) a ⌝ }
+    {
+        self.sum.join(a)
     }
 
     /// What all answers so far join to.
@@ -46,7 +53,14 @@ pub fn join_all(codes: &[Code]) -> Code
 {
     let mut all: Collector<Code> = Collector::new();
     for code in codes {
-        all = all.add(*code);
+        all = with_code(all, *code);
     }
     all.sum()
+}
+
+/// One response more.
+fn with_code(all: Collector<Code>, code: Code) -> Collector<Code>
+    ensures { λ r. ⌜ r .sum ≡ join-codes (all .sum) code ⌝ }
+{
+    all.add(code)
 }

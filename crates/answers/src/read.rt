@@ -21,10 +21,17 @@ impl ReadAnswer {
         ensures value { λ r. ⌜ r ≡ part-answer plan at lr ⌝ }
         ensures lanes { λ _. ⌜ Joins-lane-by-lane plan ⌝ }
     {
-        ReadAnswer {
-            rdata: plan.raise(at, lr.lrdata),
-            code: Code::read(lr.lrresp),
-        }
+        read_part(plan, at, lr)
+    }
+}
+
+/// A part's data on its own lanes, and its response as it is read.
+fn read_part(plan: Plan, at: u32, lr: LowerRead) -> ReadAnswer
+    ensures { λ r. ⌜ r ≡ part-answer plan at lr ⌝ }
+{
+    ReadAnswer {
+        rdata: plan.raise(at, lr.lrdata),
+        code: Code::read(lr.lrresp),
     }
 }
 

@@ -11,7 +11,7 @@ use Rattle.answers.specs.Join.{total, join-codes, no-read, join-reads}
 use Rattle.answers.specs.FirstError.{first-error}
 use Rattle.answers.specs.ReadLanes.{part-answers, due-read, part-codes, on-lane, word}
 use Rattle.answers.specs.declared.read.ReadAnswer.{ReadAnswer}
-use Rattle.answers.proofs.FirstErrors.{joins-to-first-error}
+use Rattle.answers.proofs.FirstErrors.{joins-to-first-error, code-right, code-assoc}
 use Rattle.answers.proofs.OrLaws.{or-assoc}
 use Rattle.answers.proofs.ReadWords.{joins-lane-by-lane}
 use Rattle.axi.specs.Addresses.{on-bus, beat-address, beat-number}
@@ -33,16 +33,6 @@ use Rattle.ledgers.specs.Lists.{covers}
 use Rattle.bridge.specs.Protocol.{pieces, joining, judged, cut-at, cut-places, if-forwarded, place, Write-part, write-codes, answer-of, due-answer, due-read-beat, read-beat-of}
 
 -- CODES
-code-right : (x : Code) → join-codes x Okay ≡ x
-code-right Okay = refl
-code-right SlvErr = refl
-code-right DecErr = refl
-
-code-assoc : (x y z : Code) → join-codes (join-codes x y) z ≡ join-codes x (join-codes y z)
-code-assoc Okay y z = refl
-code-assoc SlvErr y z = refl
-code-assoc DecErr y z = refl
-
 code-laws : (p : Plan) → Sum-laws (joining p .writes)
 code-laws p = record { left = λ x. refl; right = code-right; assoc = code-assoc }
 

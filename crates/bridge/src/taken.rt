@@ -20,6 +20,21 @@ pub struct Taken {
     pub verdict: Verdict,
 }
 
+/// What a bench can fill the slots of a burst table with.
+pub const NO_BURST: Taken = Taken {
+    burst: Burst {
+        id: 0,
+        addr: 0,
+        len: 0,
+        size: 0,
+        burst: 0,
+        lock: 0,
+        cache: 0,
+        prot: 0,
+    },
+    verdict: Verdict::Forwarded,
+};
+
 /// The payload of LAW and LAR under a low VALID.
 pub const NO_PLACE: Place = Place { addr: 0, prot: 0 };
 

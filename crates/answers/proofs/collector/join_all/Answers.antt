@@ -1,9 +1,9 @@
-use lib.ListN.{take}
+use lib.ListN.{take, getD}
 use mathlib.Core.Path.{ap, sym, _∙_}
 use Rattle.axi.specs.declared.code.Code.the-variants.{Okay}
 use Rattle.std.proofs.shelf.Lists.{take-more, take-all}
 use Rattle.answers.specs.Join.{total, join-codes}
-use Rattle.answers.proofs.FirstErrors.{joins-to-first-error}
+use Rattle.answers.proofs.FirstErrors.{joins-to-first-error, codes-more}
 use Rattle.answers.proofs.collector.join_all.Needs as need
 
 pub returns : need.returns
@@ -14,4 +14,7 @@ returns c =
 pub loop-code-again : need.loop-code-again
 loop-code-again c =
     let more = take-more (c .args .codes .now) (c .loop-code .code-index) Okay (c .loop-code-test .taken) in
-    c .add-all .ensures .total (take (c .loop-code .code-index) (c .args .codes .now)) (c .loop-code .inv) ∙ ap (total Okay join-codes) (sym more)
+    c .with-code-all .ensures
+    ∙ ap (λ s. join-codes s (getD (c .args .codes .now) (c .loop-code .code-index) Okay)) (c .loop-code .inv)
+    ∙ codes-more (take (c .loop-code .code-index) (c .args .codes .now)) (getD (c .args .codes .now) (c .loop-code .code-index) Okay)
+    ∙ ap (total Okay join-codes) (sym more)

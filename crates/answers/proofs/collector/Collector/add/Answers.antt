@@ -7,6 +7,6 @@ returns g c =
     let r = g .R·Answer in
     let laws = g .R·Answer·met in
     record {
-      joined = c .join .ensures;
-      total = λ so-far e. c .join .ensures ∙ ap (λ s. r .joined s (c .args .a)) e ∙ total-push (r .none) (r .joined) (laws .left) (laws .right) (laws .assoc) so-far (c .args .a);
+      joined = c .sum-with .ensures;
+      total = λ so-far e. c .sum-with .ensures ∙ ap (λ s. r .joined s (c .args .a)) e ∙ total-push (r .none) (r .joined) (laws .left) (laws .right) (laws .assoc) so-far (c .args .a);
     }
