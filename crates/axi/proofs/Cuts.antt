@@ -11,7 +11,7 @@ use Rattle.std.proofs.shelf.Ways.{leb-tells}
 use mathlib.Core.Logic.{_⊎_, inl, inr}
 use Rattle.axi.specs.Addresses.{down, on-bus}
 use Rattle.axi.specs.Plans.{lower-width, lower-bytes}
-use Rattle.axi.specs.Parts.{row, multiples, places, next-place, further, at-places}
+use Rattle.axi.specs.Parts.{row, multiples, places, bytes-after, next-place, further, at-places}
 use Rattle.axi.specs.declared.plan.Plan.{Plan}
 use Rattle.axi.specs.declared.plan.Widths.{Widths}
 use Rattle.axi.specs.declared.plan.Widths.the-variants.{FourOverFour, EightOverFour, EightOverEight}
@@ -41,8 +41,8 @@ same-row p (suc k) a h =
 
 -- a block of 2 ^ k bytes that is wider than a bus of l bytes has so many multiples of l above a, all of them addresses
 record Counted (l s a : ℕ) : Type 0 where
-  count : (s - 1 - a % s) / l ≡ (down a s + s - 1) / l - a / l
-  fits : down a l + (s - 1 - a % s) / l * l < 2 ^ 32
+  count : bytes-after s a / l ≡ (down a s + s - 1) / l - a / l
+  fits : down a l + bytes-after s a / l * l < 2 ^ 32
 
 counted : (w : Widths) (k a : ℕ) → k ≤ 8 → a < 2 ^ 32 → lower-width w < 2 ^ k → Counted (lower-width w) (2 ^ k) a
 counted w zero a h f = by-width (λ l. l < 1 → Counted l 1 a) (λ wide. record { count = omega arith; fits = omega arith }) (λ wide. record { count = omega arith; fits = omega arith }) w
@@ -57,15 +57,15 @@ counted w (suc (suc (suc (suc (suc (suc (suc (suc zero)))))))) a h f = by-width 
 counted w (suc (suc (suc (suc (suc (suc (suc (suc (suc k))))))))) a h f = absurd (omega arith)
 
 -- a beat no wider than the bus has no part after the first
-alone : (p : Plan) (s a : ℕ) → s ≤ lower-bytes p → (s - 1 - a % s) / lower-bytes p ≡ 0
-alone p s a = by-width (λ l. s ≤ l → (s - 1 - a % s) / l ≡ 0) (λ h. omega arith) (λ h. omega arith) (p .widths)
+alone : (p : Plan) (s a : ℕ) → s ≤ lower-bytes p → bytes-after s a / lower-bytes p ≡ 0
+alone p s a = by-width (λ l. s ≤ l → bytes-after s a / l ≡ 0) (λ h. omega arith) (λ h. omega arith) (p .widths)
 
-several : (p : Plan) (s a : ℕ) → Power s → a < 2 ^ 32 → lower-bytes p < s → further p a ((s - 1 - a % s) / lower-bytes p) ≡ multiples (lower-bytes p) a (down a s + s)
+several : (p : Plan) (s a : ℕ) → Power s → a < 2 ^ 32 → lower-bytes p < s → further p a (bytes-after s a / lower-bytes p) ≡ multiples (lower-bytes p) a (down a s + s)
 several p s a w f h =
     let c : Counted (lower-bytes p) s a = subst (λ x. Counted (lower-bytes p) x a) (sym (w .is)) (counted (p .widths) (w .exponent) a (w .small) f (rw (w .is) at h)) in
     same-row p _ a (c .fits) ∙ ap (λ k. row k (down a (lower-bytes p) + lower-bytes p) (lower-bytes p)) (c .count)
 
-pub cut-is : (p : Plan) (s a : ℕ) → Power s → a < 2 ^ 32 → a ∷ further p a ((s - 1 - a % s) / lower-bytes p) ≡ places p s a
+pub cut-is : (p : Plan) (s a : ℕ) → Power s → a < 2 ^ 32 → a ∷ further p a (bytes-after s a / lower-bytes p) ≡ places p s a
 cut-is p s a w f =
     elim (leb-tells s (lower-bytes p)) [
       | inl t ↦ ap (λ k. a ∷ further p a k) (alone p s a (t .1)) ∙ sym (ap (λ t. cond t (a ∷ []) (a ∷ multiples (lower-bytes p) a (down a s + s))) (t .0))

@@ -1,11 +1,15 @@
 -- The address of each beat of a burst.
 use Prim.Native.Nat.{ℕ, _+_, _-_, _*_, _%_, _^_}
 use mathlib.Core.Bool.{cond}
+use mathlib.Core.Path.{_≡_}
 use lib.Dec.{eqb}
 use Rattle.axi.specs.Bursts.{bytes, beats, kind-of}
+use Rattle.axi.specs.Verdicts.{verdict-of}
 use Rattle.axi.specs.declared.burst.Burst.{Burst}
 use Rattle.axi.specs.declared.burst.Kind.{Kind}
 use Rattle.axi.specs.declared.burst.Kind.the-variants.{Fixed, Incr, Wrap, Reserved}
+use Rattle.axi.specs.declared.plan.Plan.{Plan}
+use Rattle.axi.specs.declared.verdict.Verdict.the-variants.{Forwarded}
 use Rattle.axi.specs.declared.walk.Walk.{Walk}
 
 -- a, brought down to a multiple of n
@@ -45,6 +49,10 @@ begun b = record { burst = b; count = beats b }
 -- the address of the next beat of a walk
 abbrev pub here : Walk → ℕ
 here w = on-bus (beat-address (w .burst) (beat-number (w .burst) (w .count - 1)))
+
+-- a is the next beat's address whole, if any settings forward the burst
+abbrev pub Carried-whole : Walk → ℕ → Type 0
+Carried-whole w a = (p : Plan) → verdict-of p (w .burst) ≡ Forwarded → a ≡ beat-address (w .burst) (beat-number (w .burst) (w .count - 1))
 
 -- the beats after it
 abbrev pub left : Walk → Walk

@@ -7,3 +7,4 @@ pub mod Parts
 pub mod Lanes
 pub mod Codes
 pub mod Checks
+pub mod Worked

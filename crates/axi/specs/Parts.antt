@@ -1,7 +1,9 @@
 -- The addresses of a beat's parts on the lower bus.
-use Prim.Native.Nat.{ℕ, zero, suc, _+_, _-_, _/_}
+use Prim.Native.Nat.{ℕ, zero, suc, _+_, _-_, _/_, _%_, _<_}
 use mathlib.Core.Bool.{cond}
 use mathlib.Core.List.{List, [], _∷_}
+use mathlib.Core.Logic.{_⊎_}
+use mathlib.Core.Path.{_≡_}
 use lib.Dec.{eqb, leb}
 use Rattle.std.specs.declared.option.Option.{Option}
 use Rattle.std.specs.declared.option.Option.the-variants.{Some, None}
@@ -23,6 +25,30 @@ multiples l a end = row ((end - 1) / l - a / l) (down a l + l) l
 -- else its parts are at a and at each multiple of L above a within the beat's aligned block of s bytes
 abbrev pub places : Plan → ℕ → ℕ → List ℕ
 places p s a = cond (leb s (lower-bytes p)) (a ∷ []) (a ∷ multiples (lower-bytes p) a (down a s + s))
+
+-- x stands in the list
+abbrev pub Among : ℕ → List ℕ → Type 0
+Among x [] = ⊥
+Among x (y ∷ ys) = (x ≡ y) ⊎ Among x ys
+
+-- each address is below all that follow it
+abbrev pub Ascends : List ℕ → Type 0
+Ascends [] = Unit {0}
+Ascends (x ∷ xs) = ((y : ℕ) → Among y xs → x < y) × Ascends xs
+
+-- x is a multiple of L above a, within the aligned block of s bytes that a lies in
+abbrev pub Within : Plan → ℕ → ℕ → ℕ → Type 0
+Within p s a x = (a < x) × (x < down a s + s) × (x % lower-bytes p ≡ 0)
+
+-- xs is the parts of a beat of s bytes at address a: a, and just the multiples of L above it within its block, upward
+pub record Parted (p : Plan) (s a : ℕ) (xs : List ℕ) : Type 0 where
+  pub only : (x : ℕ) → Among x xs → (x ≡ a) ⊎ Within p s a x
+  pub all : (x : ℕ) → (x ≡ a) ⊎ Within p s a x → Among x xs
+  pub upward : Ascends xs
+
+-- how many bytes follow a, within the aligned block of s bytes that it lies in
+abbrev pub bytes-after : ℕ → ℕ → ℕ
+bytes-after s a = s - 1 - a % s
 
 -- the first address above a that is a multiple of L
 abbrev pub next-place : Plan → ℕ → ℕ

@@ -1,5 +1,6 @@
 -- The ten reasons to refuse a burst, in their order.
-use Prim.Native.Nat.{ℕ, _+_, _-_, _*_, _%_}
+use Prim.Native.Nat.{ℕ, _+_, _-_, _*_, _%_, _<_}
+use mathlib.Core.Path.{_≡_}
 use mathlib.Core.Bool.{Bool, true, false, cond, not, _&&_, _||_}
 use mathlib.Core.List.{List, [], _∷_, _++_}
 use lib.Dec.{eqb, leb, ltb}
@@ -30,25 +31,25 @@ verdict-number WiderThanLower = 8
 verdict-number NarrowerThanLower = 9
 verdict-number LockedOrCached = 10
 
-abbrev is-reserved : Kind → Bool
+abbrev pub is-reserved : Kind → Bool
 is-reserved Fixed = false
 is-reserved Incr = false
 is-reserved Wrap = false
 is-reserved Reserved = true
 
-abbrev is-fixed : Kind → Bool
+abbrev pub is-fixed : Kind → Bool
 is-fixed Fixed = true
 is-fixed Incr = false
 is-fixed Wrap = false
 is-fixed Reserved = false
 
-abbrev is-incr : Kind → Bool
+abbrev pub is-incr : Kind → Bool
 is-incr Fixed = false
 is-incr Incr = true
 is-incr Wrap = false
 is-incr Reserved = false
 
-abbrev is-wrap : Kind → Bool
+abbrev pub is-wrap : Kind → Bool
 is-wrap Fixed = false
 is-wrap Incr = false
 is-wrap Wrap = true
@@ -100,6 +101,15 @@ at-level v p = record { widths = p .widths; level = v }
 
 abbrev pub is-forwarded : Verdict → Bool
 is-forwarded v = eqb (verdict-number v) 0
+
+-- the reasons in the order of their numbers, and Forwarded after all of them
+abbrev pub rank : Verdict → ℕ
+rank v = cond (is-forwarded v) 11 (verdict-number v)
+
+-- v applies to the burst, and no reason before it does; so where v is Forwarded, no reason at all
+pub record First-reason (p : Plan) (b : Burst) (v : Verdict) : Type 0 where
+  pub holds : applies p b v ≡ true
+  pub none-before : (u : Verdict) → rank u < rank v → applies p b u ≡ false
 
 -- the rule that the burst's shape breaks, if any
 abbrev pub shape-refusal : Plan → Burst → Option Verdict

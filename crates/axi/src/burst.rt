@@ -5,7 +5,7 @@ ghost use lib.ListN.{getD};
 ghost use mathlib.Core.Path.{_≡_};
 
 /// How the addresses of a burst's beats follow one another.
-#[derive(Clone, Copy, Debug, PartialEq, Eq)]
+#[derive(Clone, Copy)]
 pub enum Kind {
     /// Every beat at the same address.
     Fixed,

@@ -4,7 +4,7 @@ ghost use Rattle.axi.specs.Codes.{code-number, read-code};
 ghost use mathlib.Core.Path.{_≡_};
 
 /// A response as the bridge gives it. It never gives EXOKAY.
-#[derive(Clone, Copy, Debug, PartialEq, Eq)]
+#[derive(Clone, Copy)]
 pub enum Code {
     Okay = 0,
     SlvErr = 2,

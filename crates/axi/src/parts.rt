@@ -2,9 +2,10 @@
 ghost use Prim.Native.Nat.{ℕ, _+_, _-_, _*_, _/_, _%_, _^_, _≤_, _<_};
 ghost use Rattle.axi.specs.Bursts.{bytes};
 ghost use Rattle.axi.specs.Plans.{lower-bytes, upper-bytes};
-ghost use Rattle.axi.specs.Parts.{places, at-places, next-parts};
+ghost use Rattle.axi.specs.Parts.{places, further, at-places, next-parts, bytes-after, Parted};
 ghost use Rattle.axi.specs.Lanes.{lane, on-lanes, strobes-on, raised, write-part};
 ghost use Rattle.std.specs.declared.option.Option.the-variants.{Some, None};
+ghost use mathlib.Core.List.{_∷_};
 ghost use mathlib.Core.Path.{_≡_};
 use crate::burst::Burst;
 use crate::plan::Plan;
@@ -33,15 +34,32 @@ pub struct Parts {
     pub more: u8,
 }
 
+/// How many bytes follow the address `at` in its aligned block of a beat's bytes.
+fn bytes_after(b: Burst, at: u32) -> u32
+    ensures which { λ r. ⌜ r ≡ bytes-after (bytes b) at ⌝ }
+    ensures small { λ r. ⌜ r < 256 ⌝ }
+{
+    let s = b.bytes();
+    s - 1 - at % s
+}
+
 impl Plan {
+    /// How many parts of a beat of this burst follow the one at address `at`.
+    fn parts_after(self, b: Burst, at: u32) -> u8
+        ensures which { λ r. ⌜ at ∷ further self at r ≡ places self (bytes b) at ⌝ }
+        ensures parted { λ r. ⌜ Parted self (bytes b) at (at ∷ further self at r) ⌝ }
+    {
+        (bytes_after(b, at) / self.lower()) as u8
+    }
+
     /// The parts of a beat of this burst at address `at`.
     pub fn parts(self, b: Burst, at: u32) -> Parts
-        ensures { λ r. ⌜ at-places self r ≡ places self (bytes b) at ⌝ }
+        ensures which { λ r. ⌜ at-places self r ≡ places self (bytes b) at ⌝ }
+        ensures parted { λ r. ⌜ Parted self (bytes b) at (at-places self r) ⌝ }
     {
-        let s = b.bytes();
         Parts {
             at,
-            more: ((s - 1 - at % s) / self.lower()) as u8,
+            more: self.parts_after(b, at),
         }
     }
 

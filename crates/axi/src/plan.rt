@@ -6,7 +6,7 @@ ghost use Rattle.std.specs.declared.result.Result.the-variants.{Ok, Err};
 ghost use mathlib.Core.Path.{_≡_};
 
 /// The widths of the upper and the lower bus in bytes. The lower bus is never the wider one.
-#[derive(Clone, Copy, Debug, PartialEq, Eq)]
+#[derive(Clone, Copy)]
 pub enum Widths {
     FourOverFour,
     EightOverFour,
@@ -14,7 +14,7 @@ pub enum Widths {
 }
 
 /// What the bridge converts, and from what it protects the block.
-#[derive(Clone, Copy, Debug, PartialEq, Eq)]
+#[derive(Clone, Copy)]
 pub enum Level {
     /// Level 0: every legal burst is converted.
     FullConversion,
@@ -34,7 +34,7 @@ impl Level {
 }
 
 /// Why there is no plan with the values asked for.
-#[derive(Clone, Copy, Debug, PartialEq, Eq)]
+#[derive(Clone, Copy)]
 pub enum PlanRefusal {
     /// A width is neither 4 nor 8.
     Width = 1,

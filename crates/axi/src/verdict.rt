@@ -2,7 +2,7 @@
 ghost use Prim.Native.Nat.{ℕ, _+_, _-_, _*_, _%_};
 ghost use Rattle.axi.specs.Plans.{upper-bytes, lower-bytes};
 ghost use Rattle.axi.specs.Bursts.{bytes, beats, kind-of};
-ghost use Rattle.axi.specs.Verdicts.{verdict-of, verdict-number, is-forwarded, wrap-count, past-boundary, shape-refusal, level-verdict, at-level};
+ghost use Rattle.axi.specs.Verdicts.{verdict-of, verdict-number, is-forwarded, wrap-count, past-boundary, shape-refusal, level-verdict, at-level, First-reason};
 ghost use Rattle.std.specs.declared.option.Option.the-variants.{None, Some};
 ghost use lib.Dec.{eqb, ltb};
 ghost use mathlib.Core.Path.{_≡_};
@@ -12,7 +12,7 @@ use crate::plan::Level;
 use crate::plan::Plan;
 
 /// What becomes of a burst: it is forwarded, or refused for the first reason that applies.
-#[derive(Clone, Copy, Debug, PartialEq, Eq)]
+#[derive(Clone, Copy)]
 pub enum Verdict {
     /// The burst goes down in parts.
     Forwarded,
@@ -105,24 +105,33 @@ impl Plan {
         }
     }
 
-    /// The verdict on a burst: the first rule that applies, or that it is forwarded.
-    pub fn judge(self, b: Burst) -> Verdict
-        ensures { λ r. ⌜ r ≡ verdict-of self b ⌝ }
+    /// The verdict on a burst at a level: the first rule that applies, or that it is forwarded.
+    fn judge_at(self, level: Level, b: Burst) -> Verdict
+        ensures which { λ r. ⌜ r ≡ verdict-of (at-level level self) b ⌝ }
+        ensures first { λ r. ⌜ First-reason (at-level level self) b r ⌝ }
     {
-        match self.shape_refusal(b) {
+        let plan = Plan {
+            widths: self.widths,
+            level,
+        };
+        match plan.shape_refusal(b) {
             Some(v) => v,
-            None => self.level_verdict(b),
+            None => plan.level_verdict(b),
         }
+    }
+
+    /// The verdict on a burst.
+    pub fn judge(self, b: Burst) -> Verdict
+        ensures which { λ r. ⌜ r ≡ verdict-of self b ⌝ }
+        ensures first { λ r. ⌜ First-reason self b r ⌝ }
+    {
+        self.judge_at(self.level, b)
     }
 
     /// The verdict that the same burst would have at full protection.
     pub fn judge_protected(self, b: Burst) -> Verdict
         ensures { λ r. ⌜ r ≡ verdict-of (at-level Level.FullProtection self) b ⌝ }
     {
-        let strict = Plan {
-            widths: self.widths,
-            level: Level::FullProtection,
-        };
-        strict.judge(b)
+        self.judge_at(Level::FullProtection, b)
     }
 }

@@ -1,6 +1,6 @@
 //! The addresses of a burst's beats.
 ghost use Prim.Native.Nat.{ℕ, _+_, _-_, _≤_};
-ghost use Rattle.axi.specs.Addresses.{beat-address, on-bus, beat-number, here, left, begun};
+ghost use Rattle.axi.specs.Addresses.{beat-address, on-bus, beat-number, here, left, begun, Carried-whole};
 ghost use Rattle.axi.specs.Verdicts.{verdict-of};
 ghost use lib.Dec.{eqb};
 ghost use mathlib.Core.Path.{_≡_};
@@ -41,18 +41,32 @@ impl Walk {
         u32::from(self.burst.len).saturating_sub(u32::from(self.count.saturating_sub(1)))
     }
 
+    /// The address of the next beat.
+    fn next_address(self) -> u32
+        ensures which { λ r. ⌜ r ≡ here self ⌝ }
+        ensures whole { λ r. ⌜ Carried-whole self r ⌝ }
+    {
+        address(self.burst, self.number())
+    }
+
+    /// The beats to come after the next one.
+    fn rest(self) -> Walk
+        ensures { λ r. ⌜ r ≡ left self ⌝ }
+    {
+        Walk {
+            burst: self.burst,
+            count: self.count.saturating_sub(1),
+        }
+    }
+
     /// The address of the next beat, and the beats to come after it.
     /// Without a beat to come it is the last beat's address, and still none.
     pub fn next(self) -> (u32, Walk)
         ensures address { λ r. ⌜ r .0 ≡ here self ⌝ }
+        ensures whole { λ r. ⌜ Carried-whole self (r .0) ⌝ }
         ensures rest { λ r. ⌜ r .1 ≡ left self ⌝ }
     {
-        let at = address(self.burst, self.number());
-        let rest = Walk {
-            burst: self.burst,
-            count: self.count.saturating_sub(1),
-        };
-        (at, rest)
+        (self.next_address(), self.rest())
     }
 }
 

@@ -74,7 +74,7 @@ pub struct Outputs {
 }
 
 /// Why an edge is refused: a field is too large under its VALID.
-#[derive(Clone, Copy, Debug, PartialEq, Eq)]
+#[derive(Clone, Copy)]
 pub enum Refusal {
     /// A field of the write burst.
     WriteBurst = 4,
