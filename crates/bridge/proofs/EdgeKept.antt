@@ -17,7 +17,7 @@ use Rattle.ledgers.proofs.OneByOneStands.{one-by-one-stands}
 use Rattle.bridge.specs.Edges.{settings, Accepted, Outcome, writes-after, reads-after, edge-report}
 use Rattle.bridge.specs.Inputs.{inputs-view}
 use Rattle.bridge.specs.Machines.{both, seen, slots, machine, Keeps, edge-call, after-edge, told, Answered}
-use Rattle.bridge.specs.Protocol.{pieces, joining}
+use Rattle.engines.specs.Protocol.{pieces, joining}
 use Rattle.bridge.specs.Reports.{no-report}
 use Rattle.bridge.specs.WriteSides.{Writes, no-writes}
 use Rattle.bridge.specs.ReadSides.{Reads, no-reads}

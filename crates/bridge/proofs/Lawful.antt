@@ -30,7 +30,7 @@ use Rattle.axi.specs.declared.wires.ReadBeat.{ReadBeat}
 use Rattle.ledgers.specs.Joining.{gather}
 use Rattle.ledgers.specs.Lawful.{Sum-laws, Lawful}
 use Rattle.ledgers.specs.Lists.{covers}
-use Rattle.bridge.specs.Protocol.{pieces, joining, judged, cut-at, cut-places, if-forwarded, place, Write-part, write-codes, answer-of, due-answer, due-read-beat, read-beat-of}
+use Rattle.engines.specs.Protocol.{pieces, joining, judged, cut-at, cut-places, if-forwarded, place, Write-part, write-codes, answer-of, due-answer, due-read-beat, read-beat-of}
 
 -- CODES
 code-laws : (p : Plan) → Sum-laws (joining p .writes)

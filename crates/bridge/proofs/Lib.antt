@@ -1,5 +1,3 @@
-pub mod NextParts
-pub mod NextBeats
 pub mod Lasts
 pub mod QueueLaws
 pub mod Lawful

@@ -17,7 +17,7 @@ use Rattle.ledgers.specs.Reader as read
 use Rattle.bridge.specs.Edges.{settings, writes-after, reads-after, edge-report}
 use Rattle.bridge.specs.Inputs.{inputs-view}
 use Rattle.bridge.specs.Machines.{both, seen, slots}
-use Rattle.bridge.specs.Protocol.{pieces, joining, judged}
+use Rattle.engines.specs.Protocol.{pieces, joining, judged}
 use Rattle.bridge.specs.Queues.{when}
 use Rattle.bridge.specs.Reports.{report-of, both-verdicts, verdicts-of}
 use Rattle.bridge.specs.WriteSides.{Writes, Write-slots, writes-view, write-slots, writes-edged}

@@ -2,7 +2,7 @@
 use Rattle.axi.specs.declared.plan.Plan.{Plan}
 use Rattle.axi.specs.declared.wires.Inputs as declared
 use Rattle.ledgers.specs.Wires.{Inputs}
-use Rattle.bridge.specs.Protocol.{pieces}
+use Rattle.engines.specs.Protocol.{pieces}
 
 abbrev pub inputs-view : (p : Plan) → declared.Inputs → Inputs (pieces p)
 inputs-view p x = record {

@@ -1,11 +1,6 @@
-pub mod Protocol
-pub mod Cursors
 pub mod Inputs
 pub mod Queues
-pub mod Tasks
-pub mod Writes
 pub mod WriteSides
-pub mod Reads
 pub mod ReadSides
 pub mod Reports
 pub mod Edges

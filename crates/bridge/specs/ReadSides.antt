@@ -10,9 +10,9 @@ use Rattle.ledgers.specs.Wires.{Inputs}
 use Rattle.ledgers.specs.OneByOne.{room}
 use Rattle.ledgers.specs.Reader as spec
 use Rattle.bridge.specs.Queues.{entered, when}
-use Rattle.bridge.specs.Protocol.{pieces, joining, judged}
-use Rattle.bridge.specs.Reads.{reader-view}
-use Rattle.bridge.specs.declared.taken.Taken.{Taken}
+use Rattle.engines.specs.Protocol.{pieces, joining, judged}
+use Rattle.engines.specs.Reads.{reader-view}
+use Rattle.engines.specs.declared.taken.Taken.{Taken}
 use Rattle.bridge.specs.declared.reads.ReadSide.{ReadSide}
 use Rattle.bridge.specs.declared.reads.ReadEvents.{ReadEvents}
 

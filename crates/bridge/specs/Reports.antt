@@ -8,9 +8,9 @@ use Rattle.axi.specs.declared.plan.Plan.{Plan}
 use Rattle.axi.specs.declared.plan.Level.the-variants.{FullProtection}
 use Rattle.axi.specs.declared.burst.Burst.{Burst}
 use Rattle.ledgers.specs.Wires.{Inputs, Outputs}
-use Rattle.bridge.specs.Protocol.{pieces}
+use Rattle.engines.specs.Protocol.{pieces}
 use Rattle.bridge.specs.Queues.{when}
-use Rattle.bridge.specs.declared.taken.Taken.{Taken}
+use Rattle.engines.specs.declared.taken.Taken.{Taken}
 use Rattle.bridge.specs.declared.report.Crossed.{Crossed}
 use Rattle.bridge.specs.declared.report.Verdicts.{Verdicts}
 use Rattle.bridge.specs.declared.report.Report.{Report}

@@ -12,9 +12,9 @@ use Rattle.ledgers.specs.OneByOne.{room}
 use Rattle.ledgers.specs.Writer as spec
 use Rattle.ledgers.specs.Writer.Side.{law-side, lw-side}
 use Rattle.bridge.specs.Queues.{entered, when}
-use Rattle.bridge.specs.Protocol.{pieces, joining, judged}
-use Rattle.bridge.specs.Writes.{writer-view}
-use Rattle.bridge.specs.declared.taken.Taken.{Taken}
+use Rattle.engines.specs.Protocol.{pieces, joining, judged}
+use Rattle.engines.specs.Writes.{writer-view}
+use Rattle.engines.specs.declared.taken.Taken.{Taken}
 use Rattle.bridge.specs.declared.writes.WriteSide.{WriteSide}
 use Rattle.bridge.specs.declared.writes.WriteEvents.{WriteEvents}
 

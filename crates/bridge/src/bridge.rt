@@ -1,7 +1,7 @@
 //! The whole bridge: both sides, edge by edge.
 ghost use Rattle.bridge.specs.Edges.{settings, Outcome, writes-after, reads-after, edge-report};
 ghost use Rattle.bridge.specs.Machines.{seen, Keeps, edge-call, ask-wires-of, ask-owed-of, after-edge, Answered, outputs-view, shown-by, writes-owed-by, reads-owed-by};
-ghost use Rattle.bridge.specs.Protocol.{pieces, joining};
+ghost use Rattle.engines.specs.Protocol.{pieces, joining};
 ghost use Rattle.ledgers.specs.OneByOne.{made};
 ghost use Rattle.bridge.specs.ReadSides.{reads-view, no-reads};
 ghost use Rattle.bridge.specs.Reports.{no-report};
@@ -10,9 +10,9 @@ ghost use lib.ListN.{length};
 ghost use mathlib.Core.Path.{_≡_};
 use crate::reads::ReadSide;
 use crate::report::Report;
-use crate::taken::NO_ANSWER;
-use crate::taken::NO_READ_BEAT;
-use crate::taken::Taken;
+use engines::taken::NO_ANSWER;
+use engines::taken::NO_READ_BEAT;
+use engines::taken::Taken;
 use crate::writes::WriteSide;
 use axi::parts::Beat;
 use axi::plan::Plan;

@@ -1,12 +1,12 @@
 //! The read side: two queues and the read engine.
 ghost use Rattle.bridge.specs.Inputs.{inputs-view};
-ghost use Rattle.bridge.specs.Protocol.{judged, no-read-beat};
+ghost use Rattle.engines.specs.Protocol.{judged, no-read-beat};
 ghost use Rattle.bridge.specs.Queues.{when};
 ghost use Rattle.bridge.specs.ReadSides.{reads-view, read-slots, no-reads, reads-moved, reads-crossed, read-events, reads-edged};
 ghost use Rattle.ledgers.specs.Lists.{any};
 ghost use Rattle.ledgers.specs.OneByOne.{room};
 ghost use Rattle.ledgers.specs.Reader.{busy};
-ghost use Rattle.bridge.specs.Reads.{reader-view, reader-wires};
+ghost use Rattle.engines.specs.Reads.{reader-view, reader-wires};
 ghost use Rattle.bridge.specs.Queues.{lasts-of};
 ghost use Rattle.ring.specs.Circular.{first};
 ghost use Rattle.ring.specs.Entries.{entries};
@@ -15,9 +15,9 @@ ghost use Prim.Native.Nat.{ℕ, _+_, _<_, _≤_};
 ghost use lib.ListN.{length, getD};
 ghost use mathlib.Core.Bool.{_&&_};
 ghost use mathlib.Core.Path.{_≡_};
-use crate::reader::Reader;
-use crate::reader::ReaderWires;
-use crate::taken::Taken;
+use engines::reader::Reader;
+use engines::reader::ReaderWires;
+use engines::taken::Taken;
 use axi::plan::Plan;
 use axi::wires::Inputs;
 use axi::wires::ReadBeat;

@@ -2,7 +2,7 @@
 ghost use Rattle.bridge.specs.Reports.{report-of-events, no-report, both-verdicts};
 ghost use mathlib.Core.Path.{_≡_};
 use crate::reads::ReadEvents;
-use crate::taken::Taken;
+use engines::taken::Taken;
 use crate::writes::WriteEvents;
 use axi::plan::Plan;
 use axi::verdict::Verdict;

@@ -8,10 +8,10 @@ use axi::wires::Outputs;
 use block::Block;
 use bridge::bridge::Bridge;
 use bridge::bridge::Tables;
-use bridge::taken::NO_ANSWER;
-use bridge::taken::NO_BEAT;
-use bridge::taken::NO_BURST;
-use bridge::taken::NO_READ_BEAT;
+use engines::taken::NO_ANSWER;
+use engines::taken::NO_BEAT;
+use engines::taken::NO_BURST;
+use engines::taken::NO_READ_BEAT;
 use firmware::Firmware;
 use std::error::AnyError;
 

@@ -5,7 +5,7 @@ use native.Mathlib.Omega.{arith}
 use Rattle.std.proofs.shelf.Lists.{take-all}
 use Rattle.ring.specs.Entries.{entries}
 use Rattle.bridge.specs.Queues.{lasts-of}
-use Rattle.bridge.specs.Protocol.{no-read-beat}
+use Rattle.engines.specs.Protocol.{no-read-beat}
 use Rattle.bridge.proofs.Lasts.{lasts-more}
 use Rattle.bridge.proofs.reads.ReadSide.lasts.Needs as need
 

@@ -1,7 +1,7 @@
 //! A burst as the tables hold it.
-ghost use Rattle.bridge.specs.Cursors.{cursor-places};
+ghost use Rattle.engines.specs.Cursors.{cursor-places};
 ghost use Rattle.axi.specs.Parts.{further};
-ghost use Rattle.bridge.specs.Protocol.{judged, cut-at};
+ghost use Rattle.engines.specs.Protocol.{judged, cut-at};
 ghost use mathlib.Core.Path.{_≡_};
 use axi::burst::Burst;
 use axi::code::Code;

@@ -1,6 +1,6 @@
 -- What a burst under way stands for.
-use Rattle.bridge.specs.declared.taken.Taken.{Taken}
-use Rattle.bridge.specs.declared.task.Task.{Task}
+use Rattle.engines.specs.declared.taken.Taken.{Taken}
+use Rattle.engines.specs.declared.task.Task.{Task}
 
 -- the burst as it was taken
 abbrev pub task-burst : {R : Type 0} → Task R → Taken

@@ -7,13 +7,13 @@ use Rattle.axi.specs.declared.plan.Plan.{Plan}
 use Rattle.axi.specs.declared.code.Code.{Code}
 use Rattle.ledgers.specs.Writer as spec
 use Rattle.ledgers.specs.Writer.Side.{law-side, lw-side}
-use Rattle.bridge.specs.Protocol.{pieces, joining, Write-part, write-part, no-place, no-beat}
-use Rattle.bridge.specs.Tasks.{task-burst, task-sum}
-use Rattle.bridge.specs.declared.task.Task.{Task}
-use Rattle.bridge.specs.declared.writer.Part.{Part}
-use Rattle.bridge.specs.declared.writer.WriterWires.{WriterWires}
-use Rattle.bridge.specs.declared.writer.Writer.{Writer}
-use Rattle.bridge.specs.declared.writer.Writer.the-variants.{Idle, Fetch, Send, Await, Close}
+use Rattle.engines.specs.Protocol.{pieces, joining, Write-part, write-part, no-place, no-beat}
+use Rattle.engines.specs.Tasks.{task-burst, task-sum}
+use Rattle.engines.specs.declared.task.Task.{Task}
+use Rattle.engines.specs.declared.writer.Part.{Part}
+use Rattle.engines.specs.declared.writer.WriterWires.{WriterWires}
+use Rattle.engines.specs.declared.writer.Writer.{Writer}
+use Rattle.engines.specs.declared.writer.Writer.the-variants.{Idle, Fetch, Send, Await, Close}
 
 -- the part at hand, and the parts of its beat after it
 abbrev pub part-at : Plan → Task Code → Part → Write-part

@@ -2,8 +2,8 @@ use Prim.Native.Nat.{_-_}
 use mathlib.Core.Path.{_≡_, ap₂, _∙_}
 use native.Mathlib.Omega.{arith}
 use Rattle.ledgers.specs.Reader.{start-beat}
-use Rattle.bridge.specs.Protocol.{pieces, joining}
-use Rattle.bridge.proofs.reader.Reader.begin.Needs as need
+use Rattle.engines.specs.Protocol.{pieces, joining}
+use Rattle.engines.proofs.reader.Reader.begin.Needs as need
 
 pub returns : need.returns
 returns c =

@@ -24,7 +24,7 @@ use Rattle.answers.specs.Join.{join-codes, no-read, join-reads, part-answer}
 use Rattle.answers.specs.FirstError.{first-error}
 use Rattle.answers.specs.ReadLanes.{on-lane, word, part-codes}
 use Rattle.answers.specs.declared.read.ReadAnswer.{ReadAnswer}
-use Rattle.bridge.specs.declared.taken.Taken.{Taken}
+use Rattle.engines.specs.declared.taken.Taken.{Taken}
 
 -- the burst with the verdict that the plan gives it
 abbrev pub judged : Plan → Burst → Taken

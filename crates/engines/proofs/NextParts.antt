@@ -9,7 +9,7 @@ use Rattle.std.specs.declared.option.Option.the-variants.{Some, None}
 use Rattle.axi.specs.Parts.{further, next-place, next-parts}
 use Rattle.axi.specs.declared.plan.Plan.{Plan}
 use Rattle.axi.specs.declared.parts.Parts.{Parts}
-use Rattle.bridge.specs.Cursors.{cursor-places}
+use Rattle.engines.specs.Cursors.{cursor-places}
 
 pub moved-on : (p : Plan) (at more : ℕ) → cursor-places p (next-parts p (record { at = at; more = more })) ≡ further p at more
 moved-on p at zero = refl

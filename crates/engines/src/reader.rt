@@ -2,10 +2,10 @@
 ghost use Prim.Native.Nat.{ℕ, _-_};
 ghost use Rattle.answers.specs.Join.{join-reads, part-answer};
 ghost use Rattle.axi.specs.Parts.{further};
-ghost use Rattle.bridge.specs.Cursors.{cursor-places};
-ghost use Rattle.bridge.specs.Protocol.{pieces, joining, place, no-place, read-beat-of};
-ghost use Rattle.bridge.specs.Reads.{reader-view, reader-wires};
-ghost use Rattle.bridge.specs.Tasks.{task-burst, task-sum};
+ghost use Rattle.engines.specs.Cursors.{cursor-places};
+ghost use Rattle.engines.specs.Protocol.{pieces, joining, place, no-place, read-beat-of};
+ghost use Rattle.engines.specs.Reads.{reader-view, reader-wires};
+ghost use Rattle.engines.specs.Tasks.{task-burst, task-sum};
 ghost use Rattle.ledgers.specs.Due.{is-last};
 ghost use Rattle.ledgers.specs.Reader.{next-beat, with-parts, start-beat};
 ghost use mathlib.Core.List.{map};

@@ -1,8 +1,8 @@
 //! A burst under way, on either side.
 ghost use Rattle.axi.specs.Addresses.{left};
 ghost use Rattle.axi.specs.Bursts.{beats};
-ghost use Rattle.bridge.specs.Protocol.{place};
-ghost use Rattle.bridge.specs.Tasks.{task-burst, task-sum};
+ghost use Rattle.engines.specs.Protocol.{place};
+ghost use Rattle.engines.specs.Tasks.{task-burst, task-sum};
 ghost use mathlib.Core.Path.{_≡_};
 use crate::taken::Taken;
 use answers::answer::Answer;
@@ -72,7 +72,7 @@ impl<R: Answer + Copy> Task<R> {
 
     /// What LAW or LAR carries for a part at this address.
     pub fn place(self, at: u32) -> Place
-        ensures { λ r. ⌜ r ≡ Rattle.bridge.specs.Protocol.place (self .walk .burst) at ⌝ }
+        ensures { λ r. ⌜ r ≡ Rattle.engines.specs.Protocol.place (self .walk .burst) at ⌝ }
     {
         Place {
             addr: at,

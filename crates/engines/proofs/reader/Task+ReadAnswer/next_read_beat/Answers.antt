@@ -1,9 +1,9 @@
 use mathlib.Core.Path.{_∙_}
 use borrow.Author.Needs.{needs}
-use Rattle.bridge.specs.Protocol.{pieces, joining}
-use Rattle.bridge.specs.Tasks.{task-burst}
-use Rattle.bridge.proofs.NextBeats.{goes-on}
-use Rattle.bridge.proofs.reader.Task+ReadAnswer.next_read_beat.Needs as need
+use Rattle.engines.specs.Protocol.{pieces, joining}
+use Rattle.engines.specs.Tasks.{task-burst}
+use Rattle.engines.proofs.NextBeats.{goes-on}
+use Rattle.engines.proofs.reader.Task+ReadAnswer.next_read_beat.Needs as need
 
 pub returns-else-is-empty : need.returns-else-is-empty
 returns-else-is-empty c =

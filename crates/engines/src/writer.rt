@@ -1,9 +1,9 @@
 //! The write engine: one part under way at a time.
 ghost use Prim.Native.Nat.{ℕ, _-_};
-ghost use Rattle.bridge.specs.Protocol.{pieces, joining, write-part, answer-of, no-place, no-beat};
-ghost use Rattle.bridge.specs.Cursors.{cursor-places};
-ghost use Rattle.bridge.specs.Writes.{writer-view, writer-wires, part-at, parts-after};
-ghost use Rattle.bridge.specs.Tasks.{task-burst, task-sum};
+ghost use Rattle.engines.specs.Protocol.{pieces, joining, write-part, answer-of, no-place, no-beat};
+ghost use Rattle.engines.specs.Cursors.{cursor-places};
+ghost use Rattle.engines.specs.Writes.{writer-view, writer-wires, part-at, parts-after};
+ghost use Rattle.engines.specs.Tasks.{task-burst, task-sum};
 ghost use Rattle.ledgers.specs.Writer.{next-beat, with-parts, sent, take-beat};
 ghost use Rattle.axi.specs.Codes.{read-code};
 ghost use Rattle.answers.specs.Join.{join-codes};

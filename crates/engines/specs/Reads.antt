@@ -7,12 +7,12 @@ use Rattle.axi.specs.declared.plan.Plan.{Plan}
 use Rattle.axi.specs.declared.parts.Parts.{Parts}
 use Rattle.axi.specs.declared.parts.Place.{Place}
 use Rattle.ledgers.specs.Reader as spec
-use Rattle.bridge.specs.Protocol.{pieces, joining, place}
-use Rattle.bridge.specs.Tasks.{task-burst, task-sum}
-use Rattle.bridge.specs.declared.task.Task.{Task}
-use Rattle.bridge.specs.declared.reader.Reader.{Reader}
-use Rattle.bridge.specs.declared.reader.Reader.the-variants.{Idle, Send, Await, Close}
-use Rattle.bridge.specs.declared.reader.ReaderWires.{ReaderWires}
+use Rattle.engines.specs.Protocol.{pieces, joining, place}
+use Rattle.engines.specs.Tasks.{task-burst, task-sum}
+use Rattle.engines.specs.declared.task.Task.{Task}
+use Rattle.engines.specs.declared.reader.Reader.{Reader}
+use Rattle.engines.specs.declared.reader.Reader.the-variants.{Idle, Send, Await, Close}
+use Rattle.engines.specs.declared.reader.ReaderWires.{ReaderWires}
 
 -- the part at hand, and the parts of its beat after it
 abbrev pub part-at : Task ReadAnswer → Parts → Place

@@ -1,0 +1,2 @@
+pub mod NextParts
+pub mod NextBeats
