@@ -1,3 +1,4 @@
 pub mod Join
 pub mod FirstError
 pub mod ReadLanes
+pub mod Worked

@@ -2,3 +2,4 @@
 pub mod answer;
 pub mod collector;
 pub mod read;
+pub mod worked;

@@ -10,9 +10,6 @@ ghost use lib.ListN.{length};
 ghost use mathlib.Core.Path.{_≡_};
 use crate::reads::ReadSide;
 use crate::report::Report;
-use engines::taken::NO_ANSWER;
-use engines::taken::NO_READ_BEAT;
-use engines::taken::Taken;
 use crate::writes::WriteSide;
 use axi::parts::Beat;
 use axi::plan::Plan;
@@ -21,6 +18,9 @@ use axi::wires::Outputs;
 use axi::wires::ReadBeat;
 use axi::wires::Refusal;
 use axi::wires::WriteAnswer;
+use engines::taken::NO_ANSWER;
+use engines::taken::NO_READ_BEAT;
+use engines::taken::Taken;
 
 /// The five tables that the bench lends, with any number of slots each.
 #[derive(Drop)]

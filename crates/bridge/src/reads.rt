@@ -15,12 +15,12 @@ ghost use Prim.Native.Nat.{ℕ, _+_, _<_, _≤_};
 ghost use lib.ListN.{length, getD};
 ghost use mathlib.Core.Bool.{_&&_};
 ghost use mathlib.Core.Path.{_≡_};
-use engines::reader::Reader;
-use engines::reader::ReaderWires;
-use engines::taken::Taken;
 use axi::plan::Plan;
 use axi::wires::Inputs;
 use axi::wires::ReadBeat;
+use engines::reader::Reader;
+use engines::reader::ReaderWires;
+use engines::taken::Taken;
 use ring::Ring;
 
 /// The read bursts that wait, the read beats that wait, and the engine between them.

@@ -2,10 +2,10 @@
 ghost use Rattle.bridge.specs.Reports.{report-of-events, no-report, both-verdicts};
 ghost use mathlib.Core.Path.{_≡_};
 use crate::reads::ReadEvents;
-use engines::taken::Taken;
 use crate::writes::WriteEvents;
 use axi::plan::Plan;
 use axi::verdict::Verdict;
+use engines::taken::Taken;
 
 /// The channels that crossed on an edge.
 #[derive(Clone, Copy)]

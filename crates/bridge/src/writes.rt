@@ -13,16 +13,16 @@ ghost use Prim.Native.Nat.{_+_};
 ghost use mathlib.Core.Bool.{_&&_};
 ghost use lib.ListN.{length};
 ghost use mathlib.Core.Path.{_≡_};
-use engines::taken::Taken;
-use engines::task::Task;
-use engines::writer::Writer;
-use engines::writer::WriterWires;
 use answers::answer::CodeAnswer;
 use axi::code::Code;
 use axi::parts::Beat;
 use axi::plan::Plan;
 use axi::wires::Inputs;
 use axi::wires::WriteAnswer;
+use engines::taken::Taken;
+use engines::task::Task;
+use engines::writer::Writer;
+use engines::writer::WriterWires;
 use ring::Ring;
 
 /// The write bursts and data beats that wait, the write answers that wait, and the engine between them.

@@ -2,6 +2,7 @@
 mod block;
 mod firmware;
 mod show;
+
 use axi::plan::Plan;
 use axi::wires::Inputs;
 use axi::wires::Outputs;
@@ -41,7 +42,13 @@ fn inputs(firmware: &Firmware, block: &Block, edge: u32) -> Inputs {
 }
 
 /// One edge: what crosses is printed, and the firmware and the block go on by it.
-fn step(rt: &LibcRuntime, bridge: &mut Bridge, firmware: &mut Firmware, block: &mut Block, edge: u32) -> Result<(), AnyError> {
+fn step(
+    rt: &LibcRuntime,
+    bridge: &mut Bridge,
+    firmware: &mut Firmware,
+    block: &mut Block,
+    edge: u32,
+) -> Result<(), AnyError> {
     let o: Outputs = bridge.wires();
     let x = inputs(firmware, block, edge);
     let Ok(report) = bridge.edge(&x) else {
@@ -83,7 +90,11 @@ fn run(rt: &LibcRuntime) -> Result<(), AnyError> {
         edges = edge + 1;
     }
     let owed = bridge.owed();
-    println!(rt, "owed {} writes, {} reads after {edges} edges", owed.writes, owed.reads)?;
+    println!(
+        rt,
+        "owed {} writes, {} reads after {edges} edges",
+        owed.writes, owed.reads
+    )?;
     println!(rt, "{}", block.verdict())?;
     println!(rt, "{}", firmware.verdict())?;
     Ok(())
