@@ -40,7 +40,78 @@ pub struct Bridge<'a> {
     reads: ReadSide<'a>,
 }
 
+/// What a bridge owes. The counts are wide enough for tables of any size.
+#[derive(Clone, Copy)]
+pub struct Owed {
+    /// Write bursts whose answer has not crossed.
+    pub writes: u128,
+    /// Read bursts whose last beat has not crossed.
+    pub reads: u128,
+}
+
 impl<'a> Bridge<'a> {
+    /// A bridge of a plan over the bench's tables, as after a reset. It never refuses.
+    pub fn new(plan: Plan, tables: Tables<'a>) -> Self
+        ensures made { λ r. ⌜ seen plan r ≡ made (pieces plan) (joining plan) ⌝ }
+        ensures settings { λ r. ⌜ Rattle.bridge.specs.Edges.settings r ≡ record { plan = plan; write-side = record { bursts = length (now (tables .entry .«write_bursts»)); beats = length (now (tables .entry .«data_beats»)); answers = length (now (tables .entry .«write_answers»)) }; read-side = record { bursts = length (now (tables .entry .«read_bursts»)); beats = length (now (tables .entry .«read_beats»)) } } ⌝ }
+    {
+        let Tables {
+            write_bursts,
+            data_beats,
+            write_answers,
+            read_bursts,
+            read_beats,
+        } = tables;
+        Bridge {
+            plan,
+            writes: WriteSide::new(write_bursts, data_beats, write_answers),
+            reads: ReadSide::new(read_bursts, read_beats),
+        }
+    }
+
+    /// One rising edge.
+    ///
+    /// With ARESETn low it empties all queues and stops both engines. Otherwise a field that is too large under its VALID refuses the
+    /// edge, and the bridge and its tables stay as they were; else every channel with VALID and READY both high crosses.
+    pub fn edge(&mut self, x: &Inputs) -> Result<Report, Refusal>
+        ensures result { λ r. ⌜ Answered (now (self .entry)) (now (x .entry)) (now (self .exit)) r ⌝ }
+        ensures moved { λ _. ⌜ seen (now (self .entry) .plan) (now (self .exit)) ≡ after-edge (now (self .entry)) (now (x .entry)) ⌝ }
+        ensures kept { λ _. ⌜ settings (now (self .exit)) ≡ settings (now (self .entry)) ⌝ }
+        ensures promise { λ _. ⌜ Keeps (now (self .entry)) (edge-call (now (self .entry)) (now (x .entry))) (now (self .exit)) ⌝ }
+    {
+        self.advance(x)
+    }
+
+    /// Every wire that the bridge drives, from its state alone. Payload under a low VALID is 0.
+    pub fn wires(&self) -> Outputs
+        ensures shown { λ r. ⌜ outputs-view (now (self .entry) .plan) r ≡ shown-by (now (self .entry)) ⌝ }
+        ensures promise { λ _. ⌜ Keeps (now (self .entry)) (ask-wires-of (now (self .entry))) (now (self .entry)) ⌝ }
+    {
+        self.drive()
+    }
+
+    /// The write bursts and read bursts that were taken and are not answered yet.
+    pub fn owed(&self) -> Owed
+        ensures writes { λ r. ⌜ r .writes ≡ writes-owed-by (now (self .entry)) ⌝ }
+        ensures reads { λ r. ⌜ r .reads ≡ reads-owed-by (now (self .entry)) ⌝ }
+        ensures promise { λ _. ⌜ Keeps (now (self .entry)) (ask-owed-of (now (self .entry))) (now (self .entry)) ⌝ }
+    {
+        Owed {
+            writes: self.writes.owed(),
+            reads: self.reads.owed(),
+        }
+    }
+
+    /// One edge: refused, a reset, or both sides move.
+    fn advance(&mut self, x: &Inputs) -> Result<Report, Refusal>
+        ensures { λ r. ⌜ Outcome (now (self .entry)) (now (x .entry)) (now (self .exit)) r ⌝ }
+    {
+        if let Some(refusal) = self.plan.check(x) {
+            return Err(refusal);
+        }
+        Ok(if x.aresetn { self.run(x) } else { self.reset() })
+    }
+
     /// An edge with ARESETn high and wires that fit.
     fn run(&mut self, x: &Inputs) -> Report
         ensures report { λ r. ⌜ r ≡ edge-report (now (self .entry)) (now (x .entry)) ⌝ }
@@ -63,29 +134,6 @@ impl<'a> Bridge<'a> {
         self.writes.reset();
         self.reads.reset();
         Report::nothing()
-    }
-
-    /// One edge: refused, a reset, or both sides move.
-    fn advance(&mut self, x: &Inputs) -> Result<Report, Refusal>
-        ensures { λ r. ⌜ Outcome (now (self .entry)) (now (x .entry)) (now (self .exit)) r ⌝ }
-    {
-        if let Some(refusal) = self.plan.check(x) {
-            return Err(refusal);
-        }
-        Ok(if x.aresetn { self.run(x) } else { self.reset() })
-    }
-
-    /// One rising edge.
-    ///
-    /// With ARESETn low it empties all queues and stops both engines. Otherwise a field that is too large under its VALID refuses the
-    /// edge, and the bridge and its tables stay as they were; else every channel with VALID and READY both high crosses.
-    pub fn edge(&mut self, x: &Inputs) -> Result<Report, Refusal>
-        ensures result { λ r. ⌜ Answered (now (self .entry)) (now (x .entry)) (now (self .exit)) r ⌝ }
-        ensures moved { λ _. ⌜ seen (now (self .entry) .plan) (now (self .exit)) ≡ after-edge (now (self .entry)) (now (x .entry)) ⌝ }
-        ensures kept { λ _. ⌜ settings (now (self .exit)) ≡ settings (now (self .entry)) ⌝ }
-        ensures promise { λ _. ⌜ Keeps (now (self .entry)) (edge-call (now (self .entry)) (now (x .entry))) (now (self .exit)) ⌝ }
-    {
-        self.advance(x)
     }
 
     /// The wires that the bridge drives, from its state alone.
@@ -114,52 +162,4 @@ impl<'a> Bridge<'a> {
             lrready: reader.lrready,
         }
     }
-
-    /// Every wire that the bridge drives, from its state alone. Payload under a low VALID is 0.
-    pub fn wires(&self) -> Outputs
-        ensures shown { λ r. ⌜ outputs-view (now (self .entry) .plan) r ≡ shown-by (now (self .entry)) ⌝ }
-        ensures promise { λ _. ⌜ Keeps (now (self .entry)) (ask-wires-of (now (self .entry))) (now (self .entry)) ⌝ }
-    {
-        self.drive()
-    }
-
-    /// The write bursts and read bursts that were taken and are not answered yet.
-    pub fn owed(&self) -> Owed
-        ensures writes { λ r. ⌜ r .writes ≡ writes-owed-by (now (self .entry)) ⌝ }
-        ensures reads { λ r. ⌜ r .reads ≡ reads-owed-by (now (self .entry)) ⌝ }
-        ensures promise { λ _. ⌜ Keeps (now (self .entry)) (ask-owed-of (now (self .entry))) (now (self .entry)) ⌝ }
-    {
-        Owed {
-            writes: self.writes.owed(),
-            reads: self.reads.owed(),
-        }
-    }
-
-    /// A bridge of a plan over the bench's tables, as after a reset. It never refuses.
-    pub fn new(plan: Plan, tables: Tables<'a>) -> Self
-        ensures made { λ r. ⌜ seen plan r ≡ made (pieces plan) (joining plan) ⌝ }
-        ensures settings { λ r. ⌜ Rattle.bridge.specs.Edges.settings r ≡ record { plan = plan; write-side = record { bursts = length (now (tables .entry .«write_bursts»)); beats = length (now (tables .entry .«data_beats»)); answers = length (now (tables .entry .«write_answers»)) }; read-side = record { bursts = length (now (tables .entry .«read_bursts»)); beats = length (now (tables .entry .«read_beats»)) } } ⌝ }
-    {
-        let Tables {
-            write_bursts,
-            data_beats,
-            write_answers,
-            read_bursts,
-            read_beats,
-        } = tables;
-        Bridge {
-            plan,
-            writes: WriteSide::new(write_bursts, data_beats, write_answers),
-            reads: ReadSide::new(read_bursts, read_beats),
-        }
-    }
-}
-
-/// What a bridge owes. The counts are wide enough for tables of any size.
-#[derive(Clone, Copy)]
-pub struct Owed {
-    /// Write bursts whose answer has not crossed.
-    pub writes: u128,
-    /// Read bursts whose last beat has not crossed.
-    pub reads: u128,
 }

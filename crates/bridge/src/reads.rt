@@ -54,6 +54,61 @@ impl<'a> ReadSide<'a> {
         }
     }
 
+    /// One edge: the engine moves, then what crosses above enters and leaves. It answers what crossed.
+    pub fn edge(&mut self, plan: Plan, x: &Inputs) -> ReadEvents
+        ensures events { λ r. ⌜ r ≡ read-events plan (read-slots (now (self .entry))) (reads-view plan (now (self .entry))) (inputs-view plan (now (x .entry))) ⌝ }
+        ensures edged { λ _. ⌜ reads-view plan (now (self .exit)) ≡ reads-edged plan (read-slots (now (self .entry))) (reads-view plan (now (self .entry))) (inputs-view plan (now (x .entry))) ⌝ }
+        ensures kept { λ _. ⌜ read-slots (now (self .exit)) ≡ read-slots (now (self .entry)) ⌝ }
+    {
+        let events = self.events(plan, x);
+        self.step(plan, x);
+        self.cross(plan, events);
+        events
+    }
+
+    /// Empties the queues and stops the engine.
+    pub fn reset(&mut self)
+        ensures empty { λ _. ⌜ ((p : Plan) → reads-view p (now (self .exit)) ≡ no-reads p) ⌝ }
+        ensures kept { λ _. ⌜ read-slots (now (self .exit)) ≡ read-slots (now (self .entry)) ⌝ }
+    {
+        self.bursts.clear();
+        self.beats.clear();
+        self.reader = Reader::Idle;
+    }
+
+    /// ARREADY: there is a slot for a burst.
+    pub fn takes_burst(&self) -> bool
+        ensures { λ r. ⌜ r ≡ room (read-slots (now (self .entry)) .bursts) (entries (now (self .entry) .bursts)) ⌝ }
+    {
+        !self.bursts.is_full()
+    }
+
+    /// The oldest beat that waits.
+    pub fn beat(&self) -> Option<ReadBeat>
+        ensures { λ r. ⌜ r ≡ first (entries (now (self .entry) .beats)) ⌝ }
+    {
+        self.beats.front()
+    }
+
+    /// The wires of the engine.
+    pub fn engine_wires(&self, plan: Plan) -> ReaderWires
+        ensures { λ r. ⌜ r ≡ reader-wires plan (now (self .entry) .reader) ⌝ }
+    {
+        self.reader.wires(plan)
+    }
+
+    /// The read bursts taken whose last beat has not crossed.
+    pub fn owed(&self) -> u128
+        ensures { λ r. ⌜ ((p : Plan) → r ≡ length (entries (now (self .entry) .bursts)) + busy (reader-view p (now (self .entry) .reader)) + lasts-of (entries (now (self .entry) .beats))) ⌝ }
+    {
+        let busy: u128 = if matches!(self.reader, Reader::Idle) {
+            0
+        } else {
+            1
+        };
+        self.bursts.len() as u128 + busy + self.lasts() as u128
+    }
+
     /// One move of the engine, by its state and the wires from below.
     fn step(&mut self, plan: Plan, x: &Inputs)
         ensures moved { λ _. ⌜ reads-view plan (now (self .exit)) ≡ reads-moved plan (read-slots (now (self .entry))) (reads-view plan (now (self .entry))) (inputs-view plan (now (x .entry))) ⌝ }
@@ -78,13 +133,6 @@ impl<'a> ReadSide<'a> {
                 }
             }
         }
-    }
-
-    /// ARREADY: there is a slot for a burst.
-    pub fn takes_burst(&self) -> bool
-        ensures { λ r. ⌜ r ≡ room (read-slots (now (self .entry)) .bursts) (entries (now (self .entry) .bursts)) ⌝ }
-    {
-        !self.bursts.is_full()
     }
 
     /// RVALID: a beat waits.
@@ -131,20 +179,6 @@ impl<'a> ReadSide<'a> {
         }
     }
 
-    /// The oldest beat that waits.
-    pub fn beat(&self) -> Option<ReadBeat>
-        ensures { λ r. ⌜ r ≡ first (entries (now (self .entry) .beats)) ⌝ }
-    {
-        self.beats.front()
-    }
-
-    /// The wires of the engine.
-    pub fn engine_wires(&self, plan: Plan) -> ReaderWires
-        ensures { λ r. ⌜ r ≡ reader-wires plan (now (self .entry) .reader) ⌝ }
-    {
-        self.reader.wires(plan)
-    }
-
     /// How many beats that wait have LAST.
     fn lasts(&self) -> usize
         ensures { λ r. ⌜ r ≡ lasts-of (entries (now (self .entry) .beats)) ⌝ }
@@ -165,39 +199,5 @@ impl<'a> ReadSide<'a> {
             Some(beat) if beat.last => 1,
             _ => 0,
         }
-    }
-
-    /// The read bursts taken whose last beat has not crossed.
-    pub fn owed(&self) -> u128
-        ensures { λ r. ⌜ ((p : Plan) → r ≡ length (entries (now (self .entry) .bursts)) + busy (reader-view p (now (self .entry) .reader)) + lasts-of (entries (now (self .entry) .beats))) ⌝ }
-    {
-        let busy: u128 = if matches!(self.reader, Reader::Idle) {
-            0
-        } else {
-            1
-        };
-        self.bursts.len() as u128 + busy + self.lasts() as u128
-    }
-
-    /// One edge: the engine moves, then what crosses above enters and leaves. It answers what crossed.
-    pub fn edge(&mut self, plan: Plan, x: &Inputs) -> ReadEvents
-        ensures events { λ r. ⌜ r ≡ read-events plan (read-slots (now (self .entry))) (reads-view plan (now (self .entry))) (inputs-view plan (now (x .entry))) ⌝ }
-        ensures edged { λ _. ⌜ reads-view plan (now (self .exit)) ≡ reads-edged plan (read-slots (now (self .entry))) (reads-view plan (now (self .entry))) (inputs-view plan (now (x .entry))) ⌝ }
-        ensures kept { λ _. ⌜ read-slots (now (self .exit)) ≡ read-slots (now (self .entry)) ⌝ }
-    {
-        let events = self.events(plan, x);
-        self.step(plan, x);
-        self.cross(plan, events);
-        events
-    }
-
-    /// Empties the queues and stops the engine.
-    pub fn reset(&mut self)
-        ensures empty { λ _. ⌜ ((p : Plan) → reads-view p (now (self .exit)) ≡ no-reads p) ⌝ }
-        ensures kept { λ _. ⌜ read-slots (now (self .exit)) ≡ read-slots (now (self .entry)) ⌝ }
-    {
-        self.bursts.clear();
-        self.beats.clear();
-        self.reader = Reader::Idle;
     }
 }

@@ -34,6 +34,19 @@ pub struct WriteSide<'a> {
     writer: Writer,
 }
 
+/// What crosses on one edge of the write side.
+#[derive(Clone, Copy)]
+pub struct WriteEvents {
+    /// The burst taken above, with its verdict.
+    pub aw: Option<Taken>,
+    /// The data beat taken above.
+    pub w: Option<Beat>,
+    pub b: bool,
+    pub law: bool,
+    pub lw: bool,
+    pub lb: bool,
+}
+
 impl<'a> WriteSide<'a> {
     /// Empty queues in the slots that are lent, and an idle engine.
     pub fn new(
@@ -50,6 +63,69 @@ impl<'a> WriteSide<'a> {
             answers: Ring::new(answers),
             writer: Writer::Idle,
         }
+    }
+
+    /// One edge: the engine moves, then what crosses above enters and leaves. It answers what crossed.
+    pub fn edge(&mut self, plan: Plan, x: &Inputs) -> WriteEvents
+        ensures events { λ r. ⌜ r ≡ write-events plan (write-slots (now (self .entry))) (writes-view plan (now (self .entry))) (inputs-view plan (now (x .entry))) ⌝ }
+        ensures edged { λ _. ⌜ writes-view plan (now (self .exit)) ≡ writes-edged plan (write-slots (now (self .entry))) (writes-view plan (now (self .entry))) (inputs-view plan (now (x .entry))) ⌝ }
+        ensures kept { λ _. ⌜ write-slots (now (self .exit)) ≡ write-slots (now (self .entry)) ⌝ }
+    {
+        let events = self.events(plan, x);
+        self.step(plan, x);
+        self.cross(plan, events);
+        events
+    }
+
+    /// Empties the queues and stops the engine.
+    pub fn reset(&mut self)
+        ensures empty { λ _. ⌜ ((p : Plan) → writes-view p (now (self .exit)) ≡ no-writes p) ⌝ }
+        ensures kept { λ _. ⌜ write-slots (now (self .exit)) ≡ write-slots (now (self .entry)) ⌝ }
+    {
+        self.bursts.clear();
+        self.beats.clear();
+        self.answers.clear();
+        self.writer = Writer::Idle;
+    }
+
+    /// AWREADY: there is a slot for a burst.
+    pub fn takes_burst(&self) -> bool
+        ensures { λ r. ⌜ r ≡ room (write-slots (now (self .entry)) .bursts) (entries (now (self .entry) .bursts)) ⌝ }
+    {
+        !self.bursts.is_full()
+    }
+
+    /// WREADY: there is a slot for a data beat.
+    pub fn takes_beat(&self) -> bool
+        ensures { λ r. ⌜ r ≡ room (write-slots (now (self .entry)) .beats) (entries (now (self .entry) .beats)) ⌝ }
+    {
+        !self.beats.is_full()
+    }
+
+    /// The oldest answer that waits.
+    pub fn answer(&self) -> Option<WriteAnswer>
+        ensures { λ r. ⌜ r ≡ first (entries (now (self .entry) .answers)) ⌝ }
+    {
+        self.answers.front()
+    }
+
+    /// The wires of the engine.
+    pub fn engine_wires(&self, plan: Plan) -> WriterWires
+        ensures { λ r. ⌜ r ≡ writer-wires plan (now (self .entry) .writer) ⌝ }
+    {
+        self.writer.wires(plan)
+    }
+
+    /// The write bursts taken and not yet answered.
+    pub fn owed(&self) -> u128
+        ensures { λ r. ⌜ ((p : Plan) → r ≡ length (entries (now (self .entry) .bursts)) + busy (writer-view p (now (self .entry) .writer)) + length (entries (now (self .entry) .answers))) ⌝ }
+    {
+        let busy: u128 = if matches!(self.writer, Writer::Idle) {
+            0
+        } else {
+            1
+        };
+        self.bursts.len() as u128 + busy + self.answers.len() as u128
     }
 
     /// One move of the engine, by its state and the wires from below.
@@ -81,20 +157,6 @@ impl<'a> WriteSide<'a> {
                 }
             }
         }
-    }
-
-    /// AWREADY: there is a slot for a burst.
-    pub fn takes_burst(&self) -> bool
-        ensures { λ r. ⌜ r ≡ room (write-slots (now (self .entry)) .bursts) (entries (now (self .entry) .bursts)) ⌝ }
-    {
-        !self.bursts.is_full()
-    }
-
-    /// WREADY: there is a slot for a data beat.
-    pub fn takes_beat(&self) -> bool
-        ensures { λ r. ⌜ r ≡ room (write-slots (now (self .entry)) .beats) (entries (now (self .entry) .beats)) ⌝ }
-    {
-        !self.beats.is_full()
     }
 
     /// BVALID: an answer waits.
@@ -156,66 +218,4 @@ impl<'a> WriteSide<'a> {
             self.beats.push(beat);
         }
     }
-
-    /// The oldest answer that waits.
-    pub fn answer(&self) -> Option<WriteAnswer>
-        ensures { λ r. ⌜ r ≡ first (entries (now (self .entry) .answers)) ⌝ }
-    {
-        self.answers.front()
-    }
-
-    /// The wires of the engine.
-    pub fn engine_wires(&self, plan: Plan) -> WriterWires
-        ensures { λ r. ⌜ r ≡ writer-wires plan (now (self .entry) .writer) ⌝ }
-    {
-        self.writer.wires(plan)
-    }
-
-    /// The write bursts taken and not yet answered.
-    pub fn owed(&self) -> u128
-        ensures { λ r. ⌜ ((p : Plan) → r ≡ length (entries (now (self .entry) .bursts)) + busy (writer-view p (now (self .entry) .writer)) + length (entries (now (self .entry) .answers))) ⌝ }
-    {
-        let busy: u128 = if matches!(self.writer, Writer::Idle) {
-            0
-        } else {
-            1
-        };
-        self.bursts.len() as u128 + busy + self.answers.len() as u128
-    }
-
-    /// One edge: the engine moves, then what crosses above enters and leaves. It answers what crossed.
-    pub fn edge(&mut self, plan: Plan, x: &Inputs) -> WriteEvents
-        ensures events { λ r. ⌜ r ≡ write-events plan (write-slots (now (self .entry))) (writes-view plan (now (self .entry))) (inputs-view plan (now (x .entry))) ⌝ }
-        ensures edged { λ _. ⌜ writes-view plan (now (self .exit)) ≡ writes-edged plan (write-slots (now (self .entry))) (writes-view plan (now (self .entry))) (inputs-view plan (now (x .entry))) ⌝ }
-        ensures kept { λ _. ⌜ write-slots (now (self .exit)) ≡ write-slots (now (self .entry)) ⌝ }
-    {
-        let events = self.events(plan, x);
-        self.step(plan, x);
-        self.cross(plan, events);
-        events
-    }
-
-    /// Empties the queues and stops the engine.
-    pub fn reset(&mut self)
-        ensures empty { λ _. ⌜ ((p : Plan) → writes-view p (now (self .exit)) ≡ no-writes p) ⌝ }
-        ensures kept { λ _. ⌜ write-slots (now (self .exit)) ≡ write-slots (now (self .entry)) ⌝ }
-    {
-        self.bursts.clear();
-        self.beats.clear();
-        self.answers.clear();
-        self.writer = Writer::Idle;
-    }
-}
-
-/// What crosses on one edge of the write side.
-#[derive(Clone, Copy)]
-pub struct WriteEvents {
-    /// The burst taken above, with its verdict.
-    pub aw: Option<Taken>,
-    /// The data beat taken above.
-    pub w: Option<Beat>,
-    pub b: bool,
-    pub law: bool,
-    pub lw: bool,
-    pub lb: bool,
 }
