@@ -1,0 +1,10 @@
+mod Digits
+mod Gates
+mod Ledgered
+mod Lines
+mod Order
+mod Playing
+mod Pointed
+mod Rows
+mod Sorted
+mod Stepping
