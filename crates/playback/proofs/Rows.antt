@@ -2,10 +2,17 @@
 use Prim.Native.Nat.{ℕ, _+_, _≤_, _<_}
 use mathlib.Core.List.{List, [], _∷_, _++_, append-assoc}
 use mathlib.Core.Path.{_≡_, refl, sym, ap, _∙_}
+use lib.Chars.{codes}
 use lib.ListN.{length, getD, drop}
 use Rattle.std.proofs.shelf.Lists.{at-drop-more, at-drop-all}
+use Rattle.bridge.specs.declared.bridge.Owed as declared
+use Rattle.playback.specs.Endings.{ending-line, owed-numbers, fault-numbers}
+use Rattle.playback.specs.Faults.{layer-name, fault-layer}
 use Rattle.playback.specs.Printing.{numeral, row, separator-to}
+use Rattle.playback.specs.declared.ending.Ending.the-variants.{Owed, Fault}
+use Rattle.playback.specs.declared.fault.PlayerFault.{PlayerFault}
 use Rattle.playback.specs.declared.print.Base.{Base}
+use Rattle.playback.specs.declared.print.Base.the-variants.{Decimal, Hex}
 
 -- what follows a number: a space before another one, else a line end
 pub space-before : (vs : List ℕ) (i : ℕ) → i < length vs → separator-to (drop i vs) ≡ 32
@@ -28,10 +35,23 @@ row-more base vs i sep before after h is added =
 pub line-joined : (before n w fields : List ℕ) → (((before ++ n) ++ (32 ∷ [])) ++ (w ++ (32 ∷ []))) ++ fields ≡ before ++ (n ++ (32 ∷ (w ++ (32 ∷ fields))))
 line-joined before n w fields = simp append-assoc
 
--- a word and fields
-pub word-joined : (before w fields : List ℕ) → (before ++ (w ++ (32 ∷ []))) ++ fields ≡ before ++ (w ++ (32 ∷ fields))
-word-joined before w fields = simp append-assoc
-
 -- two words and fields
-pub words-joined : (before v w fields : List ℕ) → ((before ++ (v ++ (32 ∷ []))) ++ (w ++ (32 ∷ []))) ++ fields ≡ before ++ (v ++ (32 ∷ (w ++ (32 ∷ fields))))
+words-joined : (before v w fields : List ℕ) → ((before ++ (v ++ (32 ∷ []))) ++ (w ++ (32 ∷ []))) ++ fields ≡ before ++ (v ++ (32 ∷ (w ++ (32 ∷ fields))))
 words-joined before v w fields = simp append-assoc
+
+-- the line of what is owed: a word and its numbers
+pub owed-line : (before mid after numbers : List ℕ) (o : declared.Owed) → mid ≡ before ++ (codes "owed" ++ (32 ∷ [])) → numbers ≡ owed-numbers o → after ≡ mid ++ row Hex numbers → after ≡ before ++ ending-line (Owed o)
+owed-line before mid after numbers o word is added =
+    let j : (before ++ (codes "owed" ++ (32 ∷ []))) ++ row Hex (owed-numbers o) ≡ before ++ (codes "owed" ++ (32 ∷ row Hex (owed-numbers o))) =
+    append-assoc before (codes "owed" ++ (32 ∷ [])) (row Hex (owed-numbers o)) in
+    added ∙ ap (λ (z : List ℕ). z ++ row Hex numbers) word ∙ ap (λ (z : List ℕ). (before ++ (codes "owed" ++ (32 ∷ []))) ++ row Hex z) is ∙ j
+
+-- the line of a fault: a word, its layer and its numbers
+pub fault-line : (before one two after name numbers : List ℕ) (f : PlayerFault) → one ≡ before ++ (codes "fault" ++ (32 ∷ [])) → name ≡ layer-name (fault-layer f) → two ≡ one ++ (name ++ (32 ∷ [])) → numbers ≡ fault-numbers f → after ≡ two ++ row Decimal numbers → after ≡ before ++ ending-line (Fault f)
+fault-line before one two after name numbers f word named layer is added =
+    let w = layer-name (fault-layer f) in
+    let r = row Decimal (fault-numbers f) in
+    let front : two ≡ (before ++ (codes "fault" ++ (32 ∷ []))) ++ (w ++ (32 ∷ [])) =
+    layer ∙ ap (λ (z : List ℕ). z ++ (name ++ (32 ∷ []))) word ∙ ap (λ (z : List ℕ). (before ++ (codes "fault" ++ (32 ∷ []))) ++ (z ++ (32 ∷ []))) named in
+    added ∙ ap (λ (z : List ℕ). z ++ row Decimal numbers) front ∙ ap (λ (z : List ℕ). ((before ++ (codes "fault" ++ (32 ∷ []))) ++ (w ++ (32 ∷ []))) ++ row Decimal z) is
+    ∙ words-joined before (codes "fault") w r

@@ -45,8 +45,8 @@ abbrev pub no-part : LowerRead
 no-part = record { lrdata = 0; lrresp = 0 }
 
 -- the wires on an edge with this gate: a VALID also needs an entry, and the payload is the first entry that is left
-unfoldable pub driven : Stock → ℕ → Inputs
-driven e gate = record {
+abbrev pub wires-of : Stock → ℕ → Inputs
+wires-of e gate = record {
   aresetn = true;
   awvalid = allowed gate AwValid && any (e .master .writes);
   aw = oldest no-burst (e .master .writes);
@@ -64,6 +64,10 @@ driven e gate = record {
   lrvalid = allowed gate LrValid && any (e .block .rparts);
   lr = oldest no-part (e .block .rparts);
 }
+
+-- the same, shut
+unfoldable pub driven : Stock → ℕ → Inputs
+driven e gate = wires-of e gate
 
 -- a crossing uses up the first entry
 abbrev pub left-after : Stock → Crossed → Stock

@@ -30,6 +30,7 @@ use Rattle.playback.specs.Faults.{of-edge, placed}
 use Rattle.playback.specs.declared.crossing.Crossing.{Crossing}
 use Rattle.playback.specs.declared.crossing.Crossing.the-variants.{Aw, W, B, Ar, R, Law, Lw, Lb, Lar, Lr}
 use Rattle.playback.specs.declared.ending.Ending.{Ending}
+use Rattle.playback.specs.declared.fault.PlayerFault.{PlayerFault}
 use Rattle.playback.specs.declared.ending.Ending.the-variants.{Owed, Fault}
 
 -- a line of the transcript: the number of the edge, and what crossed
@@ -90,8 +91,11 @@ abbrev pub numbered : ℕ → List Crossing → List Line
 numbered n cs = map (λ c. record { edge = n; crossing = c }) cs
 
 -- a refused edge ends the playing, at its gate's word
+abbrev pub refused-at : List ℕ → ℕ → Refusal → PlayerFault
+refused-at s place e = placed (of-edge e) (line-at s place) place
+
 abbrev pub ended-at : List ℕ → ℕ → Refusal → Played
-ended-at s place e = record { lines = []; ending = Fault (placed (of-edge e) (line-at s place) place) }
+ended-at s place e = record { lines = []; ending = Fault (refused-at s place e) }
 
 abbrev pub preceded : List Line → Played → Played
 preceded ls p = record { lines = ls ++ p .lines; ending = p .ending }

@@ -1,5 +1,5 @@
 //! The last line of a transcript.
-ghost use Rattle.playback.specs.Endings.{ending-line};
+ghost use Rattle.playback.specs.Endings.{ending-line, owed-numbers, fault-numbers};
 ghost use Rattle.std.specs.Of.Vec.{vec-items};
 ghost use Rattle.std.specs.Vec.{made};
 ghost use mathlib.Core.List.{_++_};
@@ -20,6 +20,23 @@ pub enum Ending {
     Fault(PlayerFault),
 }
 
+/// What is owed, in the order of its line.
+fn owed_row(owed: Owed) -> [u128; 2]
+    ensures { λ r. ⌜ r ≡ owed-numbers owed ⌝ }
+{
+    [owed.writes, owed.reads]
+}
+
+/// Number, line and place of a fault, in the order of its line.
+fn fault_row(fault: PlayerFault) -> [u128; 3]
+    ensures { λ r. ⌜ r ≡ fault-numbers fault ⌝ }
+{
+    let number = fault.number() as u128;
+    let line = fault.line() as u128;
+    let place = fault.place() as u128;
+    [number, line, place]
+}
+
 impl Ending {
     /// The last line.
     pub(crate) fn print(self, out: &mut Vec<u8>) -> Result<(), AllocError>
@@ -28,14 +45,12 @@ impl Ending {
         match self {
             Ending::Owed(owed) => {
                 word(out, b"owed")?;
-                numbers(out, Base::Hex, &[owed.writes, owed.reads])
+                numbers(out, Base::Hex, &owed_row(owed))
             }
             Ending::Fault(fault) => {
                 word(out, b"fault")?;
                 word(out, fault.layer().name())?;
-                let number = fault.number() as u128;
-                let line = fault.line() as u128;
-                numbers(out, Base::Decimal, &[number, line, fault.place() as u128])
+                numbers(out, Base::Decimal, &fault_row(fault))
             }
         }
     }

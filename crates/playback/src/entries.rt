@@ -1,9 +1,9 @@
 //! The entries that are left of a script's sections, and the wires that they drive.
-ghost use Rattle.playback.specs.Entries.{stock, driven, left-after, allowed};
-ghost use Rattle.ledgers.specs.Lists.{less-if};
-ghost use Rattle.ring.specs.Circular.{first};
+ghost use Rattle.playback.specs.Entries.{stock, wires-of, driven, left-after, allowed};
+ghost use Rattle.ledgers.specs.Lists.{any, oldest, less-if};
 ghost use Rattle.script.specs.Values.{Taken, bursts, beats, write-codes, read-parts};
 ghost use Rattle.script.specs.declared.section.Section as sections;
+ghost use mathlib.Core.Bool.{_&&_};
 ghost use mathlib.Core.List.{List};
 ghost use mathlib.Core.Path.{_≡_};
 use axi::burst::Burst;
@@ -86,12 +86,20 @@ pub impl Entry for LowerRead as PartEntry {
     }
 }
 
-/// The first entry that is left of a section.
-fn oldest<T: Entry>(section: Section) -> Option<T>
-    ensures { λ r. ⌜ r ≡ first (left (section .entry)) ⌝ }
+/// Whether a VALID that may be high is: it also needs an entry that is left.
+fn valid<T: Entry>(section: Section, may: bool) -> bool
+    ensures { λ r. ⌜ r ≡ may && any (T·Entry .left (section .entry)) ⌝ }
 {
     let mut rest = section;
-    T::next(&mut rest)
+    may & T::next(&mut rest).is_some()
+}
+
+/// The first entry that is left, or what the wires carry where none is.
+fn payload<T: Entry>(section: Section, none: T) -> T
+    ensures { λ r. ⌜ r ≡ oldest none (T·Entry .left (section .entry)) ⌝ }
+{
+    let mut rest = section;
+    T::next(&mut rest).unwrap_or(none)
 }
 
 /// A crossing uses up the first entry of a section.
@@ -111,33 +119,41 @@ pub struct Entries<'a> {
 }
 
 impl<'a> Entries<'a> {
-    /// The wires of master and block on an edge with this gate. A VALID also needs an entry.
-    pub fn wires(&self, gate: u16) -> Inputs
-        ensures { λ r. ⌜ r ≡ driven (stock (now (self .entry))) gate ⌝ }
+    /// Each wire by its gate bit and its section.
+    fn drive(&self, gate: u16) -> Inputs
+        ensures { λ r. ⌜ r ≡ wires-of (stock (now (self .entry))) gate ⌝ }
     {
-        let aw = oldest::<Burst>(self.master.writes);
-        let w = oldest::<Beat>(self.master.beats);
-        let ar = oldest::<Burst>(self.master.reads);
-        let lb = oldest::<u8>(self.block.wcodes);
-        let lr = oldest::<LowerRead>(self.block.rparts);
+        let Master {
+            writes,
+            beats,
+            reads,
+        } = self.master;
+        let Block { wcodes, rparts } = self.block;
         Inputs {
             aresetn: true,
-            awvalid: allows(gate, Wire::AwValid) & aw.is_some(),
-            aw: aw.unwrap_or(NO_BURST.burst),
-            wvalid: allows(gate, Wire::WValid) & w.is_some(),
-            w: w.unwrap_or(NO_BEAT),
+            awvalid: valid::<Burst>(writes, allows(gate, Wire::AwValid)),
+            aw: payload::<Burst>(writes, NO_BURST.burst),
+            wvalid: valid::<Beat>(beats, allows(gate, Wire::WValid)),
+            w: payload::<Beat>(beats, NO_BEAT),
             bready: allows(gate, Wire::BReady),
-            arvalid: allows(gate, Wire::ArValid) & ar.is_some(),
-            ar: ar.unwrap_or(NO_BURST.burst),
+            arvalid: valid::<Burst>(reads, allows(gate, Wire::ArValid)),
+            ar: payload::<Burst>(reads, NO_BURST.burst),
             rready: allows(gate, Wire::RReady),
             lawready: allows(gate, Wire::LawReady),
             lwready: allows(gate, Wire::LwReady),
-            lbvalid: allows(gate, Wire::LbValid) & lb.is_some(),
-            lbresp: lb.unwrap_or(0),
+            lbvalid: valid::<u8>(wcodes, allows(gate, Wire::LbValid)),
+            lbresp: payload::<u8>(wcodes, 0),
             larready: allows(gate, Wire::LarReady),
-            lrvalid: allows(gate, Wire::LrValid) & lr.is_some(),
-            lr: lr.unwrap_or(NO_PART),
+            lrvalid: valid::<LowerRead>(rparts, allows(gate, Wire::LrValid)),
+            lr: payload::<LowerRead>(rparts, NO_PART),
         }
+    }
+
+    /// The wires of master and block on an edge with this gate.
+    pub fn wires(&self, gate: u16) -> Inputs
+        ensures { λ r. ⌜ r ≡ driven (stock (now (self .entry))) gate ⌝ }
+    {
+        self.drive(gate)
     }
 
     /// What crosses on an edge uses up its entries.

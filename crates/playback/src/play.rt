@@ -30,7 +30,9 @@ use std::alloc::Global;
 /// What a script's playing prints, and how it ends.
 #[derive(Drop)]
 pub struct Transcript {
+    /// The lines, each ended by byte 0a.
     pub bytes: Vec<u8>,
+    /// What the last line says.
     pub ending: Ending,
 }
 

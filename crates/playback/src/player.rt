@@ -1,7 +1,8 @@
 //! Playing gate by gate.
 ghost use Rattle.bridge.specs.Edges.{settings};
 ghost use Rattle.playback.specs.Entries.{stock};
-ghost use Rattle.playback.specs.Runs.{Stepped, Ran, playing};
+ghost use Rattle.playback.specs.Runs.{Stepped, Ran, playing, refused-at};
+ghost use Rattle.script.specs.Cursors.{text};
 ghost use Rattle.script.specs.Sections.{section-text};
 ghost use Rattle.script.specs.Values.{gates};
 ghost use Rattle.std.specs.Of.Vec.{vec-items};
@@ -19,6 +20,7 @@ use crate::fault::EdgeToPlayer;
 use crate::fault::PlayerFault;
 use axi::wires::Refusal;
 use bridge::bridge::Bridge;
+use script::cursor::Cursor;
 use script::section::Section;
 use std::alloc::AllocError;
 
@@ -38,6 +40,13 @@ fn step(
     Ok(crossings(&report, &x, &o))
 }
 
+/// The fault of a refused edge, at its gate's word.
+fn fault_at(refusal: Refusal, word: Cursor) -> PlayerFault
+    ensures { λ r. ⌜ r ≡ refused-at (text (word .entry)) (word .entry .at) refusal ⌝ }
+{
+    PlayerFault::from(refusal).at(word.line(), word.place())
+}
+
 /// Every gate in order, to the end or to the first refused edge.
 pub fn run(
     bridge: &mut Bridge,
@@ -53,10 +62,7 @@ pub fn run(
     while let Some(gate) = left.next_gate() {
         match step(bridge, entries, gate.bits) {
             Ok(crossings) => print_edge(out, edge, &crossings)?,
-            Err(refusal) => {
-                let fault = PlayerFault::from(refusal).at(gate.at.line(), gate.at.place());
-                return Ok(Ending::Fault(fault));
-            }
+            Err(refusal) => return Ok(Ending::Fault(fault_at(refusal, gate.at))),
         }
         edge += 1;
     }

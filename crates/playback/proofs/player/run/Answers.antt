@@ -6,14 +6,12 @@ use native.Mathlib.Omega.{arith}
 use Rattle.std.specs.Of.Vec.{vec-items}
 use Rattle.bridge.specs.Edges.{settings}
 use Rattle.bridge.specs.Machines.{seen}
-use Rattle.script.specs.Faults.{line-at}
 use Rattle.script.specs.Sections.{section-text}
 use Rattle.script.specs.Values.{GateAt, gates, gate-at}
 use Rattle.playback.proofs.Playing.{played-off, played-none, turn, turn-bytes, closed}
 use Rattle.playback.specs.Crossings.{there}
 use Rattle.playback.specs.Entries.{stock}
-use Rattle.playback.specs.Faults.{of-edge, placed}
-use Rattle.playback.specs.Runs.{Played, numbered, preceded, playing}
+use Rattle.playback.specs.Runs.{Played, numbered, preceded, playing, refused-at}
 use Rattle.playback.specs.declared.ending.Ending.the-variants.{Owed, Fault}
 use Rattle.playback.specs.declared.fault.PlayerFault.{PlayerFault}
 use Rattle.playback.proofs.player.run.Needs as need
@@ -27,16 +25,16 @@ returns-in-Err c =
     let g = c .in-Some .gate in
     let r = c .in-Err .refusal in
     let i = c .loop-gate .inv in
-    let inside = c .in-Some .ensures tt .inside in
-    let fault : c .at-fault .result ≡ placed (of-edge r) (line-at s (g .at .at)) (g .at .at) = cc in
+    let f = c .fault-at .result in
+    let fault : f ≡ refused-at s (g .at .at) r = c .fault-at .ensures ∙ ap (λ z. refused-at z (g .at .at) r) (c .in-Some .ensures tt .inside) in
     let p = playing b e s n (gates (c .loop-gate .left)) in
-    let is : p ≡ record { lines = []; ending = Fault (c .at-fault .result) } =
+    let is : p ≡ record { lines = []; ending = Fault f } =
     ap (playing b e s n) (c .in-Some .ensures tt .taken)
     ∙ played-off (settings b) s (seen (b .plan) b) e n (gate-at g) (gates (c .next-gate .last .self)) r (c .in-Err .ensures tt .edge)
     ∙ ap (λ (z : PlayerFault). record { lines = []; ending = Fault z }) (sym fault) in
     closed p
     (playing (c .args .bridge .now) (stock (c .args .entries .now)) (section-text (c .args .section)) 0 (gates (c .args .section)))
-    (vec-items (c .args .out .now)) (vec-items (c .loop-gate .out)) (Fault (c .at-fault .result)) (i .0) (i .1) is
+    (vec-items (c .args .out .now)) (vec-items (c .loop-gate .out)) (Fault f) (i .0) (i .1) is
 
 pub loop-gate-again : need.loop-gate-again
 loop-gate-again c =

@@ -1,6 +1,3 @@
-use mathlib.Core.Path.{ap, _∙_, sym}
-use Rattle.axi.specs.Checks.{refused-inputs}
-use Rattle.axi.specs.declared.wires.Inputs as inputs
 use Rattle.playback.proofs.Stepping.{stepped}
 use Rattle.playback.specs.Entries.{stock}
 use Rattle.playback.proofs.player.step.Needs as need
