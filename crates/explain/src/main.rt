@@ -1,4 +1,7 @@
 //! Tells what each burst of a full AXI4 master becomes on an AXI4-Lite block.
+
+#![tactic(auto)]
+
 mod failure;
 mod fault;
 mod hex;

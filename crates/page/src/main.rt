@@ -1,4 +1,7 @@
 //! Drives one page and its lock word through the bridge into a register block that stalls, edge by edge, and reads the page back.
+
+#![tactic(auto)]
+
 mod block;
 mod firmware;
 

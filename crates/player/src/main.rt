@@ -1,4 +1,7 @@
 //! Plays a script through a bridge and prints a transcript of what crossed.
+
+#![tactic(auto)]
+
 mod failure;
 
 ghost use Rattle.std.specs.Prelude.{◌≤◌, length, IfOk};

@@ -1,2 +1,5 @@
 //! Scripts of a bench run.
+
+#![tactic(auto)]
+
 pub mod script;

@@ -1,6 +1,9 @@
 //! Traffic for a measurement: page writes and page reads at once, with all wires ready or under irregular stalls.
 //!
 //! A program of another language links `traffic_sum` and takes the time. The model has the same traffic, so both sums must be equal.
+
+#![tactic(auto)]
+
 mod load;
 
 use axi::plan::Plan;

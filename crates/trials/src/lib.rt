@@ -1,4 +1,7 @@
 //! Tests of the other crates through their public calls. They stand here, since a crate with tests is proved a second time for them.
+
+#![tactic(auto)]
+
 #[cfg(test)]
 mod bursts;
 #[cfg(test)]

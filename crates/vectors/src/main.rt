@@ -1,4 +1,7 @@
 //! Plays every script of a pack and compares each transcript with the one that is stored for it.
+
+#![tactic(auto)]
+
 mod pack;
 
 use anyhow::anyhow;

@@ -1,4 +1,7 @@
 //! A cursor over lent bytes: words with line and place, carriers of numbers, lines of numbers, and faults.
+
+#![tactic(auto)]
+
 pub mod carrier;
 pub mod cursor;
 pub mod fault;

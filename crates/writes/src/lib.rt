@@ -1,2 +1,5 @@
 //! The write side of a bridge: three queues and the write engine.
+
+#![tactic(auto)]
+
 pub mod side;
