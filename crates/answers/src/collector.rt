@@ -16,7 +16,7 @@ impl<R: Answer + Copy> Collector<R> {
     /// Nothing collected.
     pub fn new() -> Self
         ensures none { result.sum ≡ R.Answer.none }
-        ensures total { result.sum ≡ Rattle.answers.specs.Join.total none joined [] }
+        ensures total { result.sum ≡ Rattle.answers.specs.Join.total R.Answer.none R.Answer.joined [] }
     {
         Collector { sum: R::neutral() }
     }
@@ -24,7 +24,7 @@ impl<R: Answer + Copy> Collector<R> {
     /// One more answer, joined behind those before it.
     pub fn add(self, a: R) -> Self
         ensures joined { result.sum ≡ R.Answer.joined self.sum a }
-        ensures total { (so_far : List R) → self.sum ≡ Rattle.answers.specs.Join.total none joined so_far → result.sum ≡ Rattle.answers.specs.Join.total none joined (so_far ++ (a ∷ [])) }
+        ensures total { (so_far : List R) → self.sum ≡ Rattle.answers.specs.Join.total R.Answer.none R.Answer.joined so_far → result.sum ≡ Rattle.answers.specs.Join.total R.Answer.none R.Answer.joined (so_far ++ (a ∷ [])) }
     {
         Collector {
             sum: self.sum_with(a),

@@ -1,5 +1,5 @@
 -- What is read of a line ends behind its first byte.
-use Rattle.std.proofs.Common.{◌≡◌, ℕ, ◌-◌, ◌<◌, ◌≤◌, Bool, true, false, not, ◌&&◌, eqb, leb, List, [], ◌∷◌, length, get_or, Ok, codes, sym, ap, subst, arith}
+use Rattle.std.proofs.Common.{◌≡◌, ℕ, ◌-◌, ◌^◌, ◌<◌, ◌≤◌, Bool, true, false, not, ◌&&◌, eqb, ltb, leb, List, [], ◌∷◌, length, get_or, Ok, codes, sym, ap, subst, arith}
 use Rattle.std.proofs.lemmas.Bool.{eqb-false, leb-false, cond_both}
 use Rattle.std.specs.Str.{bytes_eq}
 use Rattle.axi.specs.declared.plan.Plan.{Plan}
@@ -8,10 +8,11 @@ use Rattle.listing.specs.declared.item.Item.{Item}
 use Rattle.listing.specs.declared.item.Item.TheVariants.{Bridge, Burst}
 use Rattle.sections.specs.Lines.{bridge_line, burst_line, bridge_carriers, burst_carriers}
 use Rattle.words.specs.Lines.{numbers, headed, separator_before}
-use Rattle.words.specs.Numbers.{is_number}
+use Rattle.words.specs.Carriers.{bits}
+use Rattle.words.specs.Numbers.{is_number, value_of}
 use Rattle.words.specs.Reading.{Read, then}
 use Rattle.words.specs.Reading.Read.{got, stop}
-use Rattle.words.specs.Words.{word, word_length, keyword, number, separator, held_by}
+use Rattle.words.specs.Words.{word, word_length, keyword, number, separator}
 use Rattle.words.specs.declared.carrier.Carrier.{Carrier}
 use Rattle.words.specs.declared.carrier.Carrier.TheVariants.{Bits8, Bits16, Bits32}
 
@@ -35,10 +36,10 @@ module _ (s : List ℕ) (from at : ℕ) (h : from ≤ at) where
       cond_both (eqb (get_or s at 0) due) _ _ (Past from) (λ _. omega arith) (λ _. tt))
 
   keyword_past : (due : List ℕ) → Past from (keyword due s at)
-  keyword_past due = then_past from (word s at) _ word_past (λ w after k. cond_both (not (is_number w) && bytes_eq w due) _ _ (Past from) (λ _. k) (λ _. tt))
+  keyword_past due = then_past from (word s at) _ word_past (λ w after k. cond_both (bytes_eq w due) _ _ (Past from) (λ _. k) (λ _. tt))
 
   number_past : (c : Carrier) → Past from (number c s at)
-  number_past c = then_past from (word s at) _ word_past (λ w after k. cond_both (is_number w) _ _ (Past from) (λ _. cond_both (held_by c w) _ _ (Past from) (λ _. k) (λ _. tt)) (λ _. tt))
+  number_past c = then_past from (word s at) _ word_past (λ w after k. cond_both (is_number w) _ _ (Past from) (λ _. cond_both (leb (length w) 16 && ltb (value_of w) (2 ^ bits c)) _ _ (Past from) (λ _. k) (λ _. tt)) (λ _. tt))
 
 numbers_past : (cs : List Carrier) (s : List ℕ) (from at : ℕ) → from < at → Past from (numbers cs s at)
 numbers_past [] s from at h = h

@@ -1,7 +1,7 @@
 -- The digits of a number write it.
 use Rattle.std.proofs.Common.{◌≡◌, ℕ, ◌+◌, ◌^◌, ◌<◌, ◌≤◌, Bool, true, false, cond, eqb, List, [], ◌∷◌, map, length, sym, refl, ap, ◌∙◌, arith}
 use Rattle.std.proofs.lemmas.Int.Digits.{length-digits_of_step, length-digits_of-le, all_below_base_digits_of, number_digits_of}
-use Rattle.std.proofs.lemmas.List.{length_map}
+use Rattle.std.proofs.lemmas.List.{length-map}
 use Rattle.std.proofs.lemmas.Bool.{eqb-true, eqb-false, and_from}
 use Rattle.std.proofs.lemmas.Bool.Decides.{nat_tests}
 use Rattle.std.specs.Int.Digits.{digits_of, number_from_digits, AllBelowBase}
@@ -34,7 +34,7 @@ spelt v true e h = record { some = omega arith; few = omega arith; digits = refl
 spelt v false e h =
     let some : 0 < v = omega (arith, eqb-false v 0 e) in
     let under = all_below_base_digits_of 16 v (omega arith) in
-    let size = length_map (digits_of 16 v) digit_byte in
+    let size = length-map (digits_of 16 v) digit_byte in
     record {
       some = omega (arith, size, length-digits_of_step 16 v (omega arith) some);
       few = omega (arith, size, length-digits_of-le 16 16 v (omega arith) h);

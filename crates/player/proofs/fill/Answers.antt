@@ -9,4 +9,4 @@ loop-len-preserved g c =
     let inv = c.loop-len.invariant in
     let kept = c.read.auto.buf in
     let part = mid_len len 16385 buffer (omega (arith, inv.1)) in
-    (omega (arith, inv.0, kept, part, c.in-ok-n.ensures.bound.0), same_len_mid len (16385 - len) buffer c.read.new.buf kept ∙ inv.1)
+    (omega (arith, inv.0, kept, part, c.in_ok-n.ensures.bound.0), same_len_mid len (16385 - len) buffer c.read.new.buf kept ∙ inv.1)

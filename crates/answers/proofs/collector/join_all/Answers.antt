@@ -13,7 +13,7 @@ returns c =
 pub loop-code-preserved : goal.loop-code-preserved
 loop-code-preserved c =
     let more = take_more c.args.codes.now c.loop-code.code-index Okay c.loop-code-test.true in
-    c.with-code-all.ensures
+    c.with_code-all.ensures
     ∙ ap (λ s. join_codes s (get_or c.args.codes.now c.loop-code.code-index Okay)) c.loop-code.invariant
     ∙ codes_more (take c.loop-code.code-index c.args.codes.now) (get_or c.args.codes.now c.loop-code.code-index Okay)
     ∙ ap (total Okay join_codes) (sym more)

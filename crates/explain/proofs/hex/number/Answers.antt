@@ -4,13 +4,13 @@ use Rattle.explain.proofs.Digits.{after_grows, after_digit, after_other, after_a
 use Rattle.explain.proofs.hex.number.Goals as goal
 
 -- a byte that is no digit: the word is no number
-pub returns-in-default : goal.returns-in-default
-returns-in-default c =
-    let other = after_other c.args.word.now c.loop-byte.byte-index c.loop-byte.value c.loop-byte-test.true c.in-default.ensures in
+pub returns-in_default : goal.returns-in_default
+returns-in_default c =
+    let other = after_other c.args.word.now c.loop-byte.byte-index c.loop-byte.value c.loop-byte-test.true c.in_default.ensures in
     let same = c.loop-byte.invariant.1 in
     record {
       value = λ v e. let z : ◌≡◌ {A = ℕ} 0 1 = cc in omega arith;
-      why = (sym c.in-default.ensures, (c.loop-byte.byte-index, c.loop-byte-test.true, refl));
+      why = (sym c.in_default.ensures, (c.loop-byte.byte-index, c.loop-byte-test.true, refl));
     }
 
 -- past the largest already: the digits to come make it no smaller

@@ -12,5 +12,5 @@ returns c =
     let a = c.args.at in
     let s = bytes c.args.b in
     let w = bytes_power c.args.b in
-    let e = ap₂ (λ n l. a ∷ further p a (n / l)) c.bytes-after.ensures.which c.lower.ensures ∙ cut_is p s a w (omega arith) in
+    let e = ap₂ (λ n l. a ∷ further p a (n / l)) c.bytes_after.ensures.which c.lower.ensures ∙ cut_is p s a w (omega arith) in
     record { which = e; parted = subst (λ xs. Parted p s a xs) (sym e) (places_parted p s a w) }

@@ -25,7 +25,7 @@ returns-in-Err c =
     let p = playing b e s n (gates c.loop-gate.left) in
     let is : p ≡ record { lines = []; ending = Fault f } =
     ap (playing b e s n) c.in-Some.ensures.taken
-    ∙ played_off (settings b) s (seen b.plan b) e n (gate_at g) (gates c.next-gate.new.self) r c.in-Err.ensures.edge
+    ∙ played_off (settings b) s (seen b.plan b) e n (gate_at g) (gates c.next_gate.new.self) r c.in-Err.ensures.edge
     ∙ ap (λ (z : PlayerFault). record { lines = []; ending = Fault z }) (sym fault) in
     closed p
     (playing c.args.bridge.now (stock c.args.entries.now) (section_text c.args.section) 0 (gates c.args.section))
@@ -40,16 +40,16 @@ loop-gate-preserved c =
     let s = section_text c.loop-gate.left in
     let n = c.loop-gate.edge in
     let g = gate_at c.in-Some.gate in
-    let gs = gates c.next-gate.new.self in
+    let gs = gates c.next_gate.new.self in
     let cs = c.in-Ok.crossings in
     let i = c.loop-gate.invariant in
     let p = playing b e s n (gates c.loop-gate.left) in
-    let q = playing t f (section_text c.next-gate.new.self) (n + 1) gs in
+    let q = playing t f (section_text c.next_gate.new.self) (n + 1) gs in
     let is : p ≡ preceded (numbered n (there cs)) q =
     ap (playing b e s n) c.in-Some.ensures.taken
     ∙ turn b t e f s n g gs cs c.in-Ok.ensures.kept c.in-Ok.ensures.edge
     ∙ ap (λ z. preceded (numbered n (there cs)) (playing t f z (n + 1) gs)) (sym c.in-Some.ensures.same) in (
-      turn_bytes n cs p q (vec_items c.loop-gate.out) (vec_items c.print-edge.new.out) is c.in-ok-print-edge.ensures ∙ i.0,
+      turn_bytes n cs p q (vec_items c.loop-gate.out) (vec_items c.print_edge.new.out) is c.in_ok-print_edge.ensures ∙ i.0,
       ap (λ (z : Played). z.ending) (sym is) ∙ i.1,
       omega (arith, ap length c.in-Some.ensures.taken, i.2),
     )
@@ -63,7 +63,7 @@ returns c =
     let i = c.loop-gate.invariant in
     let p = playing b e s n (gates c.loop-gate.left) in
     let is : p ≡ record { lines = []; ending = Owed c.owed.result } =
-    ap (playing b e s n) c.in-default.ensures.taken.0
+    ap (playing b e s n) c.in_default.ensures.taken.0
     ∙ played_none (settings b) s (seen b.plan b) e n c.owed.result c.owed.ensures.writes c.owed.ensures.reads in
     closed p
     (playing c.args.bridge.now (stock c.args.entries.now) (section_text c.args.section) 0 (gates c.args.section))

@@ -13,7 +13,7 @@ loop-i-preserved c =
     let sep = c.if-i-vs.push in
     let is : sep ≡ separator_to (drop (i + 1) vs) =
     elim c.if-i-vs.branch [ then-i-vs w ↦ w.push-is ∙ sym (space_before vs (i + 1) w.if-i-vs.true) | else-i-vs w ↦ w.push-is ∙ sym (end_after vs (i + 1) w.if-i-vs.false) ] in
-    let added = pushed (sep ∷ []) c.in-ok-number.ensures c.in-ok-push.was c.push.ensures.items in
+    let added = pushed (sep ∷ []) c.in_ok-number.ensures c.in_ok-push.was c.push.ensures.items in
     row_more c.args.base vs i sep (vec_items c.loop-i.out) (vec_items c.push.new.self) c.loop-i-test.true is added ∙ c.loop-i.invariant
 
 pub returns : goal.returns

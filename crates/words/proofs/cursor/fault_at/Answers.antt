@@ -3,5 +3,4 @@ use Rattle.words.specs.Faults.{fault_at}
 use Rattle.words.proofs.cursor.fault_at.Goals as goal
 
 pub returns : goal.returns
-unfolding fault_at
 returns c = search rules

@@ -7,6 +7,6 @@ returns g c =
     let r = g.R.Answer in
     let laws = g.met.R.Answer in
     record {
-      joined = c.sum-with.ensures;
-      total = λ so_far e. c.sum-with.ensures ∙ ap (λ s. r.joined s c.args.a) e ∙ total_push r.none r.joined laws.left laws.right laws.assoc so_far c.args.a;
+      joined = c.sum_with.ensures;
+      total = λ so_far e. c.sum_with.ensures ∙ ap (λ s. r.joined s c.args.a) e ∙ total_push r.none r.joined laws.left laws.right laws.assoc so_far c.args.a;
     }

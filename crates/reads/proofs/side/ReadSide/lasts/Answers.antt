@@ -10,8 +10,8 @@ pub loop-i-preserved : goal.loop-i-preserved
 loop-i-preserved c =
     let xs = entries c.args.self.now.beats in
     let h : c.loop-i.i < length xs = omega (arith, c.len-i-end.ensures.count) in (
-      omega (arith, c.last-at-count.ensures.small),
-      ap₂ (λ a b. a + b) c.loop-i.invariant.1 (c.last-at-count.ensures.last h) ∙ sym (lasts_more xs c.loop-i.i no_read_beat h),
+      omega (arith, c.last_at-count.ensures.small),
+      ap₂ (λ a b. a + b) c.loop-i.invariant.1 (c.last_at-count.ensures.last h) ∙ sym (lasts_more xs c.loop-i.i no_read_beat h),
     )
 
 pub returns : goal.returns

@@ -6,6 +6,6 @@ pub returns : goal.returns
 unfolding beats
 returns c = search rules
 
-pub returns-in-err-next-row : goal.returns-in-err-next-row
+pub returns-in_err-next_row : goal.returns-in_err-next_row
 unfolding beats
-returns-in-err-next-row c = search rules
+returns-in_err-next_row c = search rules

@@ -10,9 +10,9 @@ use Rattle.transcript.proofs.crossing.Crossing.print.Goals as goal
 pub returns : goal.returns
 returns c =
     let before = vec_items c.args.out.now in
-    let n = c.in-ok-number.ensures in
-    let space = pushed (32 ∷ []) n c.in-ok-push.was c.push.ensures.items in
-    let w = c.in-ok-word.ensures in
+    let n = c.in_ok-number.ensures in
+    let space = pushed (32 ∷ []) n c.in_ok-push.was c.push.ensures.items in
+    let w = c.in_ok-word.ensures in
     let name = c.name.ensures in
     let j = line_joined before (numeral Hex c.args.edge) (channel c.args.self) (row Hex (fields c.args.self)) in
-    IfOk-weaker c.print-fields.result _ _ (λ _ h. cc) c.print-fields.ensures
+    IfOk-weaker c.print_fields.result _ _ (λ _ h. cc) c.print_fields.ensures

@@ -5,11 +5,11 @@ use Rattle.words.specs.Words.{word_bytes, is_number_word}
 use Rattle.words.proofs.Keywords.{no_keyword}
 use Rattle.words.proofs.cursor.Cursor.keyword.Goals as goal
 
-pub returns-in-default : goal.returns-in-default
-returns-in-default c =
-    let passed = c.in-ok-piece.ensures.read in
-    let digits : is_number (word_bytes c.in-ok-piece.field-0) ≡ true = sym passed.kind ∙ ap is_number_word c.in-default.is in
+pub returns-in_default : goal.returns-in_default
+returns-in_default c =
+    let passed = c.in_ok-piece.ensures.read in
+    let digits : is_number (word_bytes c.in_ok-piece.field-0) ≡ true = sym passed.kind ∙ ap is_number_word c.in_default.is in
     record {
       same = c.word.ensures.same;
-      read = simp (passed.read, no_keyword (word_bytes c.in-ok-piece.field-0) c.args.due.now digits c.requires) (ap stop (sym c.fault.ensures));
+      read = simp (passed.read, no_keyword (word_bytes c.in_ok-piece.field-0) c.args.due.now digits c.requires) (ap stop (sym c.fault.ensures));
     }
