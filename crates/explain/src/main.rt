@@ -13,6 +13,7 @@ mod tests;
 use failure::Failure;
 use parse::read_items;
 use std::io::Read;
+use std::process::ExitCode;
 use std::{env, fs, io};
 
 const USAGE: &str = "usage: explain [FILE]
@@ -74,10 +75,12 @@ fn run(rt: &HostRuntime) -> Result<(), Failure> {
     explain(rt, text.as_slice())
 }
 
-fn main(rt: HostRuntime) -> Result<(), Failure> {
-    let outcome = run(&rt);
-    if let Err(failure) = &outcome {
-        let _ = eprintln!(rt; "explain: {failure}");
+fn main(rt: HostRuntime) -> ExitCode {
+    match run(&rt) {
+        Ok(()) => ExitCode::SUCCESS,
+        Err(failure) => {
+            let _ = eprintln!(rt; "explain: {failure}");
+            ExitCode::FAILURE
+        }
     }
-    outcome
 }

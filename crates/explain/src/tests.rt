@@ -3,11 +3,11 @@ use crate::parse::{Item, read_items};
 use std::test::*;
 
 /// Passes where the input is refused with these words.
-fn refuses(rt: HostRuntime, text: &[u8], words: &str) -> Result<(), Fail> {
+fn refuses(rt: &(impl Abort + AllocGlobal), text: &[u8], words: &str) -> Result<(), Fail> {
     match read_items(rt.alloc(), text) {
         Ok(_) => Err(Fail::new("not refused")),
         Err(fault) => {
-            assert_eq!(fault.to_string(rt.alloc())?.as_str(), words);
+            assert_eq!(rt; fault.to_string(rt.alloc())?.as_str(), words);
             Ok(())
         },
     }
@@ -16,7 +16,7 @@ fn refuses(rt: HostRuntime, text: &[u8], words: &str) -> Result<(), Fail> {
 #[test]
 fn empty_input(rt: HostRuntime) -> Result<(), Fail> {
     refuses(
-        rt,
+        &rt,
         b"",
         "line 1: there is no plan yet; expected 'bridge U L level'",
     )
@@ -25,7 +25,7 @@ fn empty_input(rt: HostRuntime) -> Result<(), Fail> {
 #[test]
 fn wrong_keyword(rt: HostRuntime) -> Result<(), Fail> {
     refuses(
-        rt,
+        &rt,
         b"brigde 8 4 0\n",
         "line 1: there is no plan yet; expected 'bridge U L level'",
     )
@@ -34,7 +34,7 @@ fn wrong_keyword(rt: HostRuntime) -> Result<(), Fail> {
 #[test]
 fn missing_word(rt: HostRuntime) -> Result<(), Fail> {
     refuses(
-        rt,
+        &rt,
         b"bridge 8 4 0\n1 600 0 2 1 0 0\n",
         "line 2: PROT is missing; expected 'ID ADDR LEN SIZE BURST LOCK CACHE PROT'",
     )
@@ -43,7 +43,7 @@ fn missing_word(rt: HostRuntime) -> Result<(), Fail> {
 #[test]
 fn space_at_the_end(rt: HostRuntime) -> Result<(), Fail> {
     refuses(
-        rt,
+        &rt,
         b"bridge 8 4 0 \n",
         "line 1: the line goes on after its last word; expected 'bridge U L level'",
     )
@@ -52,7 +52,7 @@ fn space_at_the_end(rt: HostRuntime) -> Result<(), Fail> {
 #[test]
 fn double_space(rt: HostRuntime) -> Result<(), Fail> {
     refuses(
-        rt,
+        &rt,
         b"bridge 8 4 0\n1 600 0 2 1 0 0 0\n1  600 0 2 1 0 0 0\n",
         "line 3: ADDR has no digit; expected words parted by exactly one space",
     )
@@ -61,7 +61,7 @@ fn double_space(rt: HostRuntime) -> Result<(), Fail> {
 #[test]
 fn upper_case_digit(rt: HostRuntime) -> Result<(), Fail> {
     refuses(
-        rt,
+        &rt,
         b"bridge 8 4 0\n1 600 3F 2 1 0 0 0\n",
         "line 2: LEN has 'F'; expected hexadecimal digits 0-9 a-f",
     )
@@ -70,7 +70,7 @@ fn upper_case_digit(rt: HostRuntime) -> Result<(), Fail> {
 #[test]
 fn past_the_carrier(rt: HostRuntime) -> Result<(), Fail> {
     refuses(
-        rt,
+        &rt,
         b"bridge 8 4 0\n10000 600 0 2 1 0 0 0\n",
         "line 2: ID is too large; expected at most ffff",
     )
@@ -79,7 +79,7 @@ fn past_the_carrier(rt: HostRuntime) -> Result<(), Fail> {
 #[test]
 fn past_the_wires(rt: HostRuntime) -> Result<(), Fail> {
     refuses(
-        rt,
+        &rt,
         b"bridge 8 4 0\n1000 600 0 2 1 0 0 0\n",
         "line 2: refusal 4, a field is too large; expected at most ID fff, SIZE 7, BURST 3, LOCK 1, CACHE f, PROT 7",
     )
@@ -88,7 +88,7 @@ fn past_the_wires(rt: HostRuntime) -> Result<(), Fail> {
 #[test]
 fn no_such_plan(rt: HostRuntime) -> Result<(), Fail> {
     refuses(
-        rt,
+        &rt,
         b"bridge 8 4 0\nbridge 4 8 0\n",
         "line 2: refusal 2, the lower bus is wider than the upper one; expected L at most U",
     )
@@ -97,7 +97,7 @@ fn no_such_plan(rt: HostRuntime) -> Result<(), Fail> {
 #[test]
 fn no_final_newline(rt: HostRuntime) -> Result<(), Fail> {
     refuses(
-        rt,
+        &rt,
         b"bridge 8 4 0\n1 600 0 2 1 0 0 0",
         "line 2: the line is not ended; expected byte 0a at its end",
     )

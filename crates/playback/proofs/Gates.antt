@@ -1,7 +1,7 @@
 -- The gates of a script that is read: how many there are, and where their words stand.
 use Rattle.std.proofs.Common.{◌≡◌, ℕ, zero, suc, ◌^◌, ◌<◌, ◌≤◌, true, false, cond, eqb, leb, List, [], ◌∷◌, map, length, get_or, Ok, Err, codes, Result, sym, refl, ap, ◌∙◌, subst, arith, lit<}
 use Rattle.std.proofs.lemmas.Bool.{cond_both, leb-false}
-use Rattle.std.specs.List.{AllByRecursion as All}
+use Rattle.std.specs.List.{AllByRecursion}
 use Rattle.words.proofs.Inverse.{then_got}
 use Rattle.words.proofs.Steps.{numbers_fit, fit_at}
 use Rattle.words.specs.Faults.{fault_at}
@@ -10,7 +10,7 @@ use Rattle.words.specs.Reading.{Read, then}
 use Rattle.words.specs.Reading.Read.{got, stop}
 use Rattle.script.specs.Scripts.{Contents, master, block, edges, whole, outcome, script}
 use Rattle.sections.specs.Sections.{Row, row, rows, section, count_carriers}
-use Rattle.sections.specs.Lines.{bridge_line}
+use Rattle.sections.specs.Lines.{bridge_carriers}
 use Rattle.sections.specs.Values.{GateAt, gate_carriers, gate_of}
 use Rattle.words.specs.Words.{word, word_length, keyword, number, separator, end}
 use Rattle.words.specs.declared.carrier.Carrier.{Carrier}
@@ -43,7 +43,7 @@ row_at cs s at x next e =
     (i.1, subst (λ (z : Row). numbers cs s z.place ≡ got z.values i.1) is i.2)
 
 abbrev RowsAt : List Carrier → ℕ → List ℕ → List Row → Type 0
-RowsAt cs n s xs = (length xs ≡ n) × All (RowAt cs s) xs
+RowsAt cs n s xs = (length xs ≡ n) × AllByRecursion (RowAt cs s) xs
 
 rows_at : (cs : List Carrier) (n : ℕ) (s : List ℕ) (at : ℕ) → Given (RowsAt cs n s) (rows cs n s at)
 rows_at cs zero s at = (refl, tt)
@@ -58,19 +58,19 @@ abbrev pub IsGateAt : List ℕ → GateAt → Type 0
 IsGateAt s g = GateWord s g.place
 
 abbrev pub GatesAt : List ℕ → List GateAt → Type 0
-GatesAt s gs = (length gs < 65536) × All (IsGateAt s) gs
+GatesAt s gs = (length gs < 65536) × AllByRecursion (IsGateAt s) gs
 
 gate_word : (s : List ℕ) (x : Row) → RowAt gate_carriers s x → IsGateAt s (gate_of x)
 gate_word s x h =
     let i = then_got (number Bits10 s x.place) _ x.values h.0 h.1 in
     (i.0, i.1, i.2)
 
-gates_are : (s : List ℕ) (xs : List Row) → All (RowAt gate_carriers s) xs → (length (map gate_of xs) ≡ length xs) × All (IsGateAt s) (map gate_of xs)
+gates_are : (s : List ℕ) (xs : List Row) → AllByRecursion (RowAt gate_carriers s) xs → (length (map gate_of xs) ≡ length xs) × AllByRecursion (IsGateAt s) (map gate_of xs)
 gates_are s [] h = (refl, tt)
 gates_are s (x ∷ xs) h = let more = gates_are s xs h.1 in (ap suc more.0, (gate_word s x h.0, more.1))
 
 abbrev GateRows : List ℕ → List Row → Type 0
-GateRows s xs = (length xs < 65536) × All (RowAt gate_carriers s) xs
+GateRows s xs = (length xs < 65536) × AllByRecursion (RowAt gate_carriers s) xs
 
 few_rows : (s : List ℕ) (n next : ℕ) → n < 2 ^ 16 → Given (GateRows s) (rows gate_carriers n s next)
 few_rows s n next few = given_more (rows gate_carriers n s next) (RowsAt gate_carriers n s) (GateRows s) (λ xs h. (omega (arith, h.0), h.1)) (rows_at gate_carriers n s next)
@@ -95,7 +95,7 @@ ContentsAt s c = GatesAt s c.gates
 
 whole_at : (s : List ℕ) → Given (ContentsAt s) (whole s)
 whole_at s =
-    given_then (ContentsAt s) (bridge_line s 0) _ (λ _ at₁ _.
+    given_then (ContentsAt s) (headed (codes "bridge") bridge_carriers s 0) _ (λ _ at₁ _.
     given_then (ContentsAt s) (master s at₁) _ (λ _ at₂ _.
     given_then (ContentsAt s) (block s at₂) _ (λ _ at₃ _.
     given_then (ContentsAt s) (edges s at₃) _ (λ gs at₄ e. subst (Given (GatesAt s)) e (edges_at s at₃)))))

@@ -1,6 +1,6 @@
 -- A fault's line and place point into the script.
 use Rattle.std.proofs.Common.{◌≡◌, ℕ, ◌+◌, ◌≤◌, eqb, leb, List, [], ◌∷◌, length, Some, None, Ok, Err, Option, Result, sym, refl, ap, ◌∙◌, subst, arith}
-use Rattle.std.specs.List.{AllByRecursion as All}
+use Rattle.std.specs.List.{AllByRecursion}
 use Rattle.axi.specs.Checks.{refused_inputs}
 use Rattle.axi.specs.declared.plan.Plan.{Plan}
 use Rattle.axi.specs.declared.plan.PlanRefusal.{PlanRefusal}
@@ -23,7 +23,7 @@ edge_ends : (s : List ℕ) (g : GateAt) (q : Played) (o : Option Refusal) → Is
 edge_ends s g q None at more = more
 edge_ends s g q (Some r) at more = record { place = gate_inside s g.place at; line = refl; word = at }
 
-gates_end : (σ : Settings) (s : List ℕ) (m : StateOf σ) (e : Stock) (n : ℕ) (gs : List GateAt) → All (IsGateAt s) gs → EndsIn s (played σ s m e n gs).ending
+gates_end : (σ : Settings) (s : List ℕ) (m : StateOf σ) (e : Stock) (n : ℕ) (gs : List GateAt) → AllByRecursion (IsGateAt s) gs → EndsIn s (played σ s m e n gs).ending
 unfolding played
 gates_end σ s m e n [] at = tt
 gates_end σ s m e n (g ∷ gs) at =

@@ -9,6 +9,7 @@ ghost use Rattle.std.specs.Prelude.{◌≤◌, length, IfOk};
 use failure::Failure;
 use playback::play::play;
 use std::io::{Read, Write};
+use std::process::ExitCode;
 use std::{env, fs, io};
 use transcript::ending::Ending;
 
@@ -94,12 +95,13 @@ fn run(rt: &HostRuntime) -> Result<(), Failure> {
     }
 }
 
-fn main(rt: HostRuntime) -> Result<(), Failure> {
-    let outcome = run(&rt);
-    if let Err(failure) = &outcome {
-        if !matches!(failure, Failure::Fault) {
+fn main(rt: HostRuntime) -> ExitCode {
+    match run(&rt) {
+        Ok(()) => ExitCode::SUCCESS,
+        Err(Failure::Fault) => ExitCode::FAILURE,
+        Err(failure) => {
             let _ = eprintln!(rt; "player: {failure}");
+            ExitCode::FAILURE
         }
     }
-    outcome
 }

@@ -5,7 +5,7 @@ use Rattle.axi.specs.declared.wires.Beat.{Beat}
 use Rattle.axi.specs.declared.wires.LowerRead.{LowerRead}
 use Rattle.std.proofs.lemmas.List.{length-drop, append-nil}
 use Rattle.std.proofs.lemmas.Bool.{le-leb, cond-true}
-use Rattle.std.specs.List.{flat_map, AllByRecursion as All}
+use Rattle.std.specs.List.{flat_map, AllByRecursion}
 use Rattle.script.proofs.Back.{ReadOn, on_then, all_of_word, numbers_on, headed_on}
 use Rattle.words.specs.Lines.{Fit, headed}
 use Rattle.words.specs.Reading.{Read, then}
@@ -38,7 +38,7 @@ rows_cons cs vs vss s at n mid rest first more = record {
   on = record { end = more.on.end; read = rw (first.read, more.on.read); left = more.on.left };
 }
 
-rows_on : (cs : List Carrier) (vss : List (List ℕ)) (s : List ℕ) (at : ℕ) (rest : List ℕ) → All (Fit cs) vss → drop at s ≡ flat_map line vss ++ rest → RowsOn (rows cs (length vss) s at) vss s rest
+rows_on : (cs : List Carrier) (vss : List (List ℕ)) (s : List ℕ) (at : ℕ) (rest : List ℕ) → AllByRecursion (Fit cs) vss → drop at s ≡ flat_map line vss ++ rest → RowsOn (rows cs (length vss) s at) vss s rest
 rows_on cs [] s at rest fits e = record { found = []; same = refl; on = record { end = at; read = refl; left = e } }
 rows_on cs (vs ∷ vss) s at rest fits e =
     let first = row_on cs vs s at (flat_map line vss ++ rest) fits.0 (e ∙ append_assoc (line vs) (flat_map line vss) rest) in

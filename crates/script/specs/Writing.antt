@@ -3,7 +3,7 @@ use Rattle.std.specs.Prelude.{ℕ, ◌+◌, ◌^◌, ◌<◌, ◌≤◌, cond, L
 use Rattle.axi.specs.declared.burst.Burst.{Burst}
 use Rattle.axi.specs.declared.wires.Beat.{Beat}
 use Rattle.axi.specs.declared.wires.LowerRead.{LowerRead}
-use Rattle.std.specs.List.{flat_map, AllByRecursion as All}
+use Rattle.std.specs.List.{flat_map, AllByRecursion}
 use Rattle.std.specs.Int.Digits.{digits_of}
 use Rattle.words.specs.Lines.{Fit}
 use Rattle.script.specs.Scripts.{MasterEntries, BlockEntries, Contents}
@@ -75,7 +75,7 @@ written v = headed_line (codes "bridge") (bridge_row v) ++ (master_lines v.maste
 -- a section's values are within their carriers, and so is its count
 pub record SectionFits (cs : List Carrier) (rows : List (List ℕ)) : Type 0 where
   pub count : length rows < 2 ^ 16
-  pub each : All (Fit cs) rows
+  pub each : AllByRecursion (Fit cs) rows
 
 pub record Within (v : Values) : Type 0 where
   pub bridge : Fit bridge_carriers (bridge_row v)

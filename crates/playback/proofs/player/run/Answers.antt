@@ -49,7 +49,7 @@ loop-gate-preserved c =
     ap (playing b e s n) c.in-Some.ensures.taken
     ∙ turn b t e f s n g gs cs c.in-Ok.ensures.kept c.in-Ok.ensures.edge
     ∙ ap (λ z. preceded (numbered n (there cs)) (playing t f z (n + 1) gs)) (sym c.in-Some.ensures.same) in (
-      turn_bytes n cs p q (vec_items c.loop-gate.out) (vec_items c.print_edge.new.out) is c.in_ok-print_edge.ensures ∙ i.0,
+      turn_bytes n cs p q (vec_items c.loop-gate.out) (vec_items c.print_edge.new.out) is c.in_ok-print_edge-in-Ok.ensures ∙ i.0,
       ap (λ (z : Played). z.ending) (sym is) ∙ i.1,
       omega (arith, ap length c.in-Some.ensures.taken, i.2),
     )

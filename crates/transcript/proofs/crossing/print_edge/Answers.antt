@@ -2,7 +2,7 @@ use Rattle.std.proofs.Common.{◌≡◌, ◌+◌, [], ◌++◌, drop, vec_items,
 use Rattle.std.proofs.lemmas.List.{at_drop_all}
 use Rattle.transcript.proofs.Lines.{one_more, none_more}
 use Rattle.transcript.specs.Crossings.{edge_lines}
-use Rattle.transcript.proofs.crossing.print_edge.Goals.{in-Some+in-ok-print, in-default}
+use Rattle.transcript.proofs.crossing.print_edge.Goals.{in-Some+in_ok-print, in_default}
 use Rattle.transcript.proofs.crossing.print_edge.Goals as goal
 
 pub loop-crossing-preserved : goal.loop-crossing-preserved
@@ -15,8 +15,8 @@ loop-crossing-preserved c =
     let h = c.loop-crossing-test.true in
     let step : after ++ edge_lines n (drop (i + 1) cs) ≡ before ++ edge_lines n (drop i cs) =
     elim c.match-crossing.branch [
-      | in-Some+in-ok-print w ↦ one_more n cs i before after h w.in-Some.crossing w.in-Some.is (ap vec_items w.out-is ∙ w.in-ok-print.ensures)
-      | in-default w ↦ none_more n cs i before after h w.in-default.is (ap vec_items w.out-is)
+      | in-Some+in_ok-print w ↦ one_more n cs i before after h w.in-Some.crossing w.in-Some.is (ap vec_items w.out-is ∙ w.in_ok-print.ensures)
+      | in_default w ↦ none_more n cs i before after h w.in_default.is (ap vec_items w.out-is)
     ] in
     step ∙ c.loop-crossing.invariant
 
