@@ -1,5 +1,5 @@
 -- Joined by bitwise or, the parts of one beat give each lane the byte of the part that uses it.
-use Rattle.std.proofs.Common.{◌≡◌, ℕ, zero, suc, ◌+◌, ◌-◌, ◌*◌, ◌/◌, ◌%◌, ◌^◌, ◌<◌, ◌≤◌, Bool, true, false, cond, not, ◌&&◌, ltb, leb, ◌⊎◌, List, [], ◌∷◌, length, sym, refl, ap, ◌∙◌, subst, ap₂, inl, inr, arith}
+use Rattle.std.proofs.Common.{◌≡◌, ℕ, zero, suc, ◌+◌, ◌-◌, ◌*◌, ◌/◌, ◌%◌, ◌^◌, ◌<◌, ◌≤◌, Bool, true, false, cond, ◌&&◌, ltb, leb, List, [], ◌∷◌, length, sym, refl, ap, ◌∙◌, subst, ap₂, inl, inr, arith}
 use lib.Bits.{bit_or, or_zero_r, or_shifted_r}
 use Rattle.std.proofs.lemmas.Bool.Decides.{nat_tests}
 use Rattle.std.proofs.lemmas.Bool.{cases_lt, ltb-false}
@@ -20,7 +20,7 @@ use Rattle.axi.specs.declared.wires.LowerRead.{LowerRead}
 use Rattle.axi.specs.Codes.{read_code}
 use Rattle.axi.specs.declared.code.Code.TheVariants.{Okay}
 use Rattle.axi.proofs.Sizes.{Power, bytes_power}
-use Rattle.answers.specs.Join.{total, no_read, join_reads, join_codes, part_answer}
+use Rattle.answers.specs.Join.{total, no_read, join_reads, join_codes}
 use Rattle.answers.specs.ReadLanes.{byte, word, on_lane, part_codes, part_answers, JoinsLaneByLane}
 use Rattle.answers.proofs.FirstErrors.{joins_to_first_error}
 

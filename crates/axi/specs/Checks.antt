@@ -1,5 +1,5 @@
 -- Which values the fields on the wires may have, and when an edge is refused.
-use Rattle.std.specs.Prelude.{ℕ, ◌*◌, ◌^◌, Bool, cond, not, ◌&&◌, List, [], ◌∷◌, Some, None, Option, nat_le, nat_lt}
+use Rattle.std.specs.Prelude.{ℕ, ◌*◌, ◌^◌, Bool, cond, not, ◌&&◌, [], ◌∷◌, Some, None, Option, nat_le, nat_lt}
 use Rattle.axi.specs.First.{first_that}
 use Rattle.axi.specs.Plans.{upper_bytes, lower_bytes}
 use Rattle.axi.specs.Bursts.{burst_fits}

@@ -1,5 +1,5 @@
 -- The settings of a bridge: widths in bytes, level, and when there is no such plan.
-use Rattle.std.specs.Prelude.{ℕ, Bool, not, ◌&&◌, ◌||◌, List, [], ◌∷◌, Some, None, Option, ◌==◌, nat_lt}
+use Rattle.std.specs.Prelude.{ℕ, Bool, not, ◌&&◌, ◌||◌, [], ◌∷◌, Some, None, Option, ◌==◌, nat_lt}
 use Rattle.axi.specs.First.{first_that}
 use Rattle.axi.specs.declared.plan.Widths.{Widths}
 use Rattle.axi.specs.declared.plan.Widths.TheVariants.{FourOverFour, EightOverFour, EightOverEight}

@@ -1,17 +1,16 @@
 -- What an edge does is what the machine does, and so it keeps the promise.
-use Rattle.std.proofs.Common.{◌≡◌, Bool, true, false, cond, is_some, Some, None, Ok, Err, Result, sym, refl, ap, ◌∙◌, ap₂}
-use Rattle.axi.specs.Checks.{refused_inputs}
+use Rattle.std.proofs.Common.{◌≡◌, Bool, true, false, cond, is_some, Ok, Err, Result, sym, refl, ap, ◌∙◌, ap₂}
 use Rattle.axi.specs.declared.plan.Plan.{Plan}
 use Rattle.axi.specs.declared.wires.Inputs.{Inputs}
 use Rattle.axi.specs.declared.wires.Refusal.{Refusal}
-use Rattle.ledgers.specs.OneByOne.{State, step, made, one_by_one}
+use Rattle.ledgers.specs.OneByOne.{step, made}
 use Rattle.ledgers.specs.Wires.{Call}
 use Rattle.ledgers.specs.Promise.{PromiseStands}
 use Rattle.ledgers.proofs.Kept as promise
 use Rattle.ledgers.proofs.OneByOneStands.{one_by_one_stands}
-use Rattle.bridge.specs.Edges.{settings, Accepted, Outcome, writes_after, reads_after, edge_report}
+use Rattle.bridge.specs.Edges.{settings, Accepted, Outcome, writes_after, reads_after}
 use Rattle.engines.specs.Inputs.{inputs_view}
-use Rattle.bridge.specs.Machines.{both, seen, slots, machine, Keeps, edge_call, after_edge, told, Answered}
+use Rattle.bridge.specs.Machines.{both, seen, slots, machine, Keeps, after_edge, Answered}
 use Rattle.engines.specs.Protocol.{pieces, joining}
 use Rattle.bridge.specs.Reports.{no_report}
 use Rattle.writes.specs.WriteSides.{Writes, no_writes}

@@ -1,5 +1,5 @@
 -- The joinings of codes and of read answers are lawful, and give what is due.
-use Rattle.std.proofs.Common.{◌≡◌, ℕ, zero, suc, ◌≤◌, Bool, true, false, cond, eqb, List, [], ◌∷◌, map, length, sym, refl, ap, ◌∙◌, subst, ap₂, arith}
+use Rattle.std.proofs.Common.{◌≡◌, ℕ, zero, suc, ◌≤◌, Bool, true, false, cond, List, [], ◌∷◌, map, length, sym, refl, ap, ◌∙◌, arith}
 use lib.Bits.{or_zero_r}
 use Rattle.answers.specs.Join.{total, join_codes, no_read, join_reads}
 use Rattle.answers.specs.FirstError.{first_error}
@@ -11,12 +11,11 @@ use Rattle.answers.proofs.ReadWords.{joins_lane_by_lane}
 use Rattle.parts.specs.Addresses.{on_bus, beat_address, beat_number}
 use Rattle.axi.specs.Bursts.{bytes}
 use Rattle.parts.specs.Parts.{places}
-use Rattle.axi.specs.Verdicts.{verdict_of, verdict_number, is_forwarded}
+use Rattle.axi.specs.Verdicts.{verdict_of, is_forwarded}
 use Rattle.axi.specs.declared.plan.Plan.{Plan}
 use Rattle.axi.specs.declared.burst.Burst.{Burst}
 use Rattle.axi.specs.declared.wires.Place.{Place}
-use Rattle.axi.specs.declared.code.Code.{Code}
-use Rattle.axi.specs.declared.code.Code.TheVariants.{Okay, SlvErr, DecErr}
+use Rattle.axi.specs.declared.code.Code.TheVariants.{Okay, SlvErr}
 use Rattle.axi.specs.declared.verdict.Verdict.{Verdict}
 use Rattle.axi.specs.declared.verdict.Verdict.TheVariants.{Forwarded, ReservedKind, WiderThanUpper, FixedTooLong, WrapCount, WrapUnaligned, CrossesBoundary, SeveralBeats, WiderThanLower, NarrowerThanLower, LockedOrCached}
 use Rattle.axi.specs.declared.wires.LowerRead.{LowerRead}
@@ -24,7 +23,7 @@ use Rattle.axi.specs.declared.wires.ReadBeat.{ReadBeat}
 use Rattle.ledgers.specs.Joining.{gather}
 use Rattle.ledgers.specs.Lawful.{SumLaws, Lawful}
 use Rattle.ledgers.specs.Lists.{covers}
-use Rattle.engines.specs.Protocol.{pieces, joining, judged, cut_at, cut_places, if_forwarded, place, WritePart, write_codes, answer_of, due_answer, due_read_beat, read_beat_of}
+use Rattle.engines.specs.Protocol.{pieces, joining, judged, cut_places, place, WritePart, write_codes, answer_of, due_answer, due_read_beat, read_beat_of}
 
 -- CODES
 code_laws : (p : Plan) → SumLaws (joining p).writes

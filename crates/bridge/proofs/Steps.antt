@@ -1,5 +1,5 @@
 -- An edge of both sides is an edge of the machine.
-use Rattle.std.proofs.Common.{◌≡◌, Bool, true, false, cond, not, ◌&&◌, ◌||◌, List, [], is_some, Some, None, Option, sym, refl, ap, ◌∙◌, ap₂}
+use Rattle.std.proofs.Common.{◌≡◌, Bool, true, false, cond, ◌&&◌, ◌||◌, is_some, Some, None, refl}
 use Rattle.axi.specs.Checks.{refused_inputs, refuses_inputs}
 use Rattle.axi.specs.declared.plan.Plan.{Plan}
 use Rattle.axi.specs.declared.burst.Burst.{Burst}
@@ -15,8 +15,8 @@ use Rattle.bridge.specs.Machines.{both, seen, slots}
 use Rattle.engines.specs.Protocol.{pieces, joining, judged}
 use Rattle.engines.specs.Queues.{when}
 use Rattle.bridge.specs.Reports.{report_of, both_verdicts, verdicts_of}
-use Rattle.writes.specs.WriteSides.{Writes, WriteSlots, writes_view, write_slots, writes_edged}
-use Rattle.reads.specs.ReadSides.{Reads, ReadSlots, reads_view, read_slots, reads_edged}
+use Rattle.writes.specs.WriteSides.{writes_view, write_slots}
+use Rattle.reads.specs.ReadSides.{reads_view, read_slots}
 use Rattle.bridge.specs.declared.bridge.Bridge.{Bridge}
 use Rattle.bridge.proofs.QueueLaws.{enters, leaves, is_when}
 

@@ -1,5 +1,5 @@
 -- The bridge as the machine of the promise.
-use Rattle.std.specs.Prelude.{◌≡◌, ℕ, cond, List, [], Some, None, Ok, Err, Result}
+use Rattle.std.specs.Prelude.{◌≡◌, ℕ, cond, Some, None, Ok, Err, Result}
 use Rattle.axi.specs.Checks.{refused_inputs}
 use Rattle.axi.specs.declared.wires.Refusal.{Refusal}
 use Rattle.axi.specs.declared.plan.Plan.{Plan}

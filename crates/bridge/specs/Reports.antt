@@ -1,5 +1,5 @@
 -- What an edge's result names.
-use Rattle.std.specs.Prelude.{Bool, true, false, ◌&&◌, is_some, Some, None, Option}
+use Rattle.std.specs.Prelude.{false, ◌&&◌, is_some, Some, None, Option}
 use Rattle.axi.specs.Verdicts.{verdict_of, at_level}
 use Rattle.axi.specs.declared.plan.Plan.{Plan}
 use Rattle.axi.specs.declared.plan.Level.TheVariants.{FullProtection}

@@ -1,9 +1,8 @@
 -- A cursor moved on stands for the addresses after its own.
-use Rattle.std.proofs.Common.{◌≡◌, ℕ, zero, suc, ◌-◌, Bool, cond, eqb, List, [], ◌∷◌, Some, None, refl, ◌∙◌, ap₂, arith}
+use Rattle.std.proofs.Common.{◌≡◌, ℕ, zero, suc, ◌-◌, cond, Some, None, refl, ap₂, arith}
 use lib.Dec.{eqb-suc-zero}
 use Rattle.parts.specs.Parts.{further, next_place, next_parts}
 use Rattle.axi.specs.declared.plan.Plan.{Plan}
-use Rattle.parts.specs.declared.cut.Parts.{Parts}
 use Rattle.engines.specs.Cursors.{cursor_places}
 
 pub moved_on : (p : Plan) (at more : ℕ) → cursor_places p (next_parts p (record { at = at; more = more })) ≡ further p at more

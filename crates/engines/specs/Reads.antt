@@ -1,5 +1,5 @@
 -- What the read engine's state stands for.
-use Rattle.std.specs.Prelude.{ℕ, List, map}
+use Rattle.std.specs.Prelude.{List, map}
 use Rattle.answers.specs.declared.read.ReadAnswer.{ReadAnswer}
 use Rattle.parts.specs.Parts.{further}
 use Rattle.axi.specs.declared.plan.Plan.{Plan}

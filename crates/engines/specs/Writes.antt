@@ -1,5 +1,5 @@
 -- What the write engine's state stands for.
-use Rattle.std.specs.Prelude.{ℕ, ◌-◌, Bool, List, map}
+use Rattle.std.specs.Prelude.{◌-◌, List, map}
 use Rattle.parts.specs.Parts.{further}
 use Rattle.axi.specs.declared.plan.Plan.{Plan}
 use Rattle.axi.specs.declared.code.Code.{Code}

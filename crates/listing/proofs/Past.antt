@@ -1,5 +1,5 @@
 -- What is read of a line ends behind its first byte.
-use Rattle.std.proofs.Common.{◌≡◌, ℕ, ◌-◌, ◌^◌, ◌<◌, ◌≤◌, Bool, true, false, not, ◌&&◌, eqb, ltb, leb, List, [], ◌∷◌, length, get_or, Ok, codes, sym, ap, subst, arith}
+use Rattle.std.proofs.Common.{◌≡◌, ℕ, ◌-◌, ◌^◌, ◌<◌, ◌≤◌, Bool, true, false, ◌&&◌, eqb, ltb, leb, List, [], ◌∷◌, length, get_or, Ok, codes, sym, ap, subst, arith}
 use Rattle.std.proofs.lemmas.Bool.{eqb-false, leb-false, cond_both}
 use Rattle.std.specs.Str.{bytes_eq}
 use Rattle.axi.specs.declared.plan.Plan.{Plan}

@@ -1,5 +1,5 @@
 -- The beats of a forwarded burst lie below 2 ^ 32.
-use Rattle.std.proofs.Common.{◌≡◌, ℕ, ◌+◌, ◌-◌, ◌*◌, ◌/◌, ◌%◌, ◌^◌, ◌<◌, ◌≤◌, Bool, true, false, not, ◌&&◌, eqb, ltb, ◌⊎◌, sym, ap, ◌∙◌, inl, inr, mul-le-mul_right, mod-lt, suc-mul, div-lt_iff_lt-mul, div-add-mod', arith, pow_pos, pow-add}
+use Rattle.std.proofs.Common.{◌≡◌, ℕ, ◌+◌, ◌-◌, ◌*◌, ◌/◌, ◌%◌, ◌^◌, ◌<◌, ◌≤◌, true, false, not, ◌&&◌, eqb, ltb, sym, ap, ◌∙◌, inl, inr, mul-le-mul_right, mod-lt, suc-mul, div-lt_iff_lt-mul, div-add-mod', arith, pow_pos, pow-add}
 use Rattle.std.proofs.lemmas.Bool.{ltb-false, eqb-true, or_cases, not-false, cond_both}
 use Rattle.axi.specs.Bursts.{bytes, beats, kind_of}
 use Rattle.parts.specs.Addresses.{down, incremented, wrapped, address, beat_address, beat_number, here, CarriedWhole}

@@ -1,9 +1,9 @@
 -- A cursor of an address and a count comes to just the parts of the beat.
-use Rattle.std.proofs.Common.{◌≡◌, ℕ, zero, suc, ◌+◌, ◌-◌, ◌*◌, ◌/◌, ◌%◌, ◌^◌, ◌<◌, ◌≤◌, Bool, true, false, cond, leb, ◌⊎◌, List, [], ◌∷◌, sym, refl, ap, ◌∙◌, subst, ap₂, inl, inr, suc-mul, arith, le-ltb, lt-ltb}
+use Rattle.std.proofs.Common.{◌≡◌, ℕ, zero, suc, ◌+◌, ◌-◌, ◌*◌, ◌/◌, ◌^◌, ◌<◌, ◌≤◌, cond, [], ◌∷◌, sym, refl, ap, ◌∙◌, subst, inl, inr, suc-mul, arith}
 use Rattle.std.proofs.lemmas.Bool.Decides.{leb_tells}
-use Rattle.parts.specs.Addresses.{down, on_bus}
+use Rattle.parts.specs.Addresses.{down}
 use Rattle.axi.specs.Plans.{lower_width, lower_bytes}
-use Rattle.parts.specs.Parts.{row, multiples, places, bytes_after, next_place, further, at_places}
+use Rattle.parts.specs.Parts.{row, multiples, places, bytes_after, next_place, further}
 use Rattle.axi.specs.declared.plan.Plan.{Plan}
 use Rattle.axi.specs.declared.plan.Widths.{Widths}
 use Rattle.axi.specs.declared.plan.Widths.TheVariants.{FourOverFour, EightOverFour, EightOverEight}

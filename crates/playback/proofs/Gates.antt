@@ -1,10 +1,9 @@
 -- The gates of a script that is read: how many there are, and where their words stand.
-use Rattle.std.proofs.Common.{◌≡◌, ℕ, zero, suc, ◌^◌, ◌<◌, ◌≤◌, true, false, cond, eqb, leb, List, [], ◌∷◌, map, length, get_or, Ok, Err, codes, Result, sym, refl, ap, ◌∙◌, subst, arith, lit<}
+use Rattle.std.proofs.Common.{◌≡◌, ℕ, zero, suc, ◌^◌, ◌<◌, ◌≤◌, eqb, leb, List, [], ◌∷◌, map, length, get_or, Ok, Err, codes, Result, refl, ap, subst, arith, lit<}
 use Rattle.std.proofs.lemmas.Bool.{cond_both, leb-false}
 use Rattle.std.specs.List.{AllByRecursion}
 use Rattle.words.proofs.Inverse.{then_got}
 use Rattle.words.proofs.Steps.{numbers_fit, fit_at}
-use Rattle.words.specs.Faults.{fault_at}
 use Rattle.words.specs.Lines.{numbers, headed}
 use Rattle.words.specs.Reading.{Read, then}
 use Rattle.words.specs.Reading.Read.{got, stop}
@@ -16,7 +15,6 @@ use Rattle.words.specs.Words.{word, word_length, keyword, number, separator, end
 use Rattle.words.specs.declared.carrier.Carrier.{Carrier}
 use Rattle.words.specs.declared.carrier.Carrier.TheVariants.{Bits10, Bits16}
 use Rattle.words.specs.declared.fault.Fault.{Fault}
-use Rattle.words.specs.declared.fault.Wrong.TheVariants.{TooLong}
 use Rattle.playback.specs.Laws.{GateWord}
 
 -- what holds of the value that is read

@@ -1,5 +1,5 @@
 -- The lines of a playing are the ledgers of its calls.
-use Rattle.std.proofs.Common.{◌≡◌, ℕ, ◌+◌, Bool, true, false, cond, List, [], ◌∷◌, ◌++◌, map, is_some, Some, None, Ok, Err, Option, Result, sym, refl, ap, ◌∙◌}
+use Rattle.std.proofs.Common.{◌≡◌, ℕ, ◌+◌, Bool, true, cond, List, [], ◌∷◌, ◌++◌, map, is_some, Some, None, Ok, Option, sym, refl, ap, ◌∙◌}
 use mathlib.Core.List.{map-append}
 use Rattle.axi.specs.Checks.{refused_inputs}
 use Rattle.axi.specs.declared.plan.Plan.{Plan}
@@ -10,7 +10,7 @@ use Rattle.bridge.proofs.Steps.{is_refused}
 use Rattle.bridge.specs.Edges.{Settings}
 use Rattle.engines.specs.Inputs.{inputs_view}
 use Rattle.bridge.specs.Machines.{slots}
-use Rattle.engines.specs.Protocol.{pieces, joining}
+use Rattle.engines.specs.Protocol.{pieces}
 use Rattle.ledgers.proofs.OneByOneStands.{one_by_one_stands}
 use Rattle.ledgers.specs.Ledgers.{Ledgers, blank, extend, crossing, ledgers}
 use Rattle.ledgers.specs.Wires.{Call, state}
@@ -20,7 +20,7 @@ use Rattle.playback.proofs.Sorted.{extend_blank, extend_assoc, sorted_append, so
 use Rattle.playback.proofs.Stepping.{never_resets}
 use Rattle.playback.specs.Entries.{Stock, driven}
 use Rattle.playback.specs.Laws.{sorted, channels, call_of, last_if, called, calls, KeptLedgers}
-use Rattle.playback.specs.Runs.{Line, Played, StateOf, numbered, preceded, unless, ended_at, machine_of, wires_in, crossing_on, state_after, stock_after, played}
+use Rattle.playback.specs.Runs.{Line, Played, numbered, preceded, unless, ended_at, machine_of, wires_in, crossing_on, stock_after, played}
 use Rattle.playback.specs.Transcripts.{performed, planned, by_reading, by_plan, four_slots}
 use Rattle.transcript.specs.declared.crossing.Crossing.{Crossing}
 

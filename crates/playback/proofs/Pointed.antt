@@ -1,5 +1,5 @@
 -- A fault's line and place point into the script.
-use Rattle.std.proofs.Common.{◌≡◌, ℕ, ◌+◌, ◌≤◌, eqb, leb, List, [], ◌∷◌, length, Some, None, Ok, Err, Option, Result, sym, refl, ap, ◌∙◌, subst, arith}
+use Rattle.std.proofs.Common.{◌≡◌, ℕ, ◌+◌, List, [], ◌∷◌, Some, None, Ok, Err, Option, Result, refl, arith}
 use Rattle.std.specs.List.{AllByRecursion}
 use Rattle.axi.specs.Checks.{refused_inputs}
 use Rattle.axi.specs.declared.plan.Plan.{Plan}
@@ -14,8 +14,8 @@ use Rattle.sections.specs.Values.{GateAt}
 use Rattle.words.specs.declared.fault.Fault as script_fault
 use Rattle.playback.proofs.Gates.{IsGateAt, GatesAt, gates_at, gate_inside}
 use Rattle.playback.specs.Entries.{Stock, driven}
-use Rattle.playback.specs.Laws.{Points, EndsIn}
-use Rattle.playback.specs.Runs.{Played, StateOf, numbered, preceded, unless, ended_at, crossing_on, state_after, stock_after, played}
+use Rattle.playback.specs.Laws.{EndsIn}
+use Rattle.playback.specs.Runs.{Played, StateOf, unless, ended_at, state_after, stock_after, played}
 use Rattle.playback.specs.Transcripts.{performed, planned, by_reading, by_plan, four_slots}
 
 -- a refused edge is placed at its gate's word; else what follows decides

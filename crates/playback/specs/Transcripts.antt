@@ -14,7 +14,6 @@ use Rattle.script.specs.Scripts.{Contents, script, contents}
 use Rattle.sections.specs.Sections.{section_text}
 use Rattle.words.specs.declared.fault.Fault as script_fault
 use Rattle.script.specs.declared.script.Script as script_read
-use Rattle.playback.specs.Entries.{Stock}
 use Rattle.transcript.specs.Faults.{of_script, of_plan}
 use Rattle.playback.specs.Runs.{Played, played, played_bytes}
 use Rattle.transcript.specs.declared.ending.Ending.TheVariants.{Fault}

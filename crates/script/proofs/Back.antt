@@ -1,5 +1,5 @@
 -- Words and lines read back.
-use Rattle.std.proofs.Common.{◌≡◌, ℕ, zero, suc, ◌+◌, ◌-◌, ◌^◌, ◌<◌, ◌≤◌, Bool, true, false, cond, not, ◌&&◌, ◌||◌, eqb, ltb, leb, List, [], ◌∷◌, ◌++◌, map, length, get_or, take, drop, sym, refl, ap, ◌∙◌, append_assoc, arith}
+use Rattle.std.proofs.Common.{◌≡◌, ℕ, ◌+◌, ◌^◌, ◌<◌, Bool, true, false, ◌&&◌, eqb, ltb, leb, List, [], ◌∷◌, ◌++◌, length, get_or, take, drop, sym, refl, ap, ◌∙◌, append_assoc, arith}
 use Rattle.std.proofs.lemmas.List.{drop-drop, drop_at, take_at, length-drop, length-append, get_or-drop}
 use Rattle.std.proofs.lemmas.Bool.{lt-leb, le-leb, lt-ltb, eq-eqb, ne_eqb, and_parts, and_from, cond-true, cond-false}
 use Rattle.std.proofs.lemmas.Bool.Decides.{nat_tests}
@@ -8,11 +8,10 @@ use Rattle.std.specs.List.{prefix_len}
 use Rattle.std.specs.Str.{bytes_eq}
 use Rattle.script.proofs.Hexes.{hex_spells}
 use Rattle.words.specs.Carriers.{bits}
-use Rattle.words.specs.Faults.{fault_at}
 use Rattle.words.specs.Lines.{numbers, headed, separator_before, Fit}
 use Rattle.words.specs.Numbers.{is_digit, is_number, value_of}
 use Rattle.words.specs.Reading.{Read, then}
-use Rattle.words.specs.Reading.Read.{got, stop}
+use Rattle.words.specs.Reading.Read.{got}
 use Rattle.words.specs.Words.{of_word, word_length, word_at, word, keyword, number, separator}
 use Rattle.script.specs.Writing.{hex, line, headed_line, separator_to}
 use Rattle.words.specs.declared.carrier.Carrier.{Carrier}

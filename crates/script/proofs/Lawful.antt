@@ -1,10 +1,10 @@
 -- The laws, from what a reading returns.
-use Rattle.std.proofs.Common.{◌≡◌, ℕ, ◌≤◌, List, length, Ok, Err, Result, sym, refl, ap, ◌∙◌, subst, arith}
+use Rattle.std.proofs.Common.{◌≡◌, ℕ, ◌≤◌, List, length, Ok, Err, Result, sym, ap, ◌∙◌, subst, arith}
 use Rattle.script.proofs.Pointing.{Pointed, script_points}
 use Rattle.script.proofs.Roundtrip.{script_back}
-use Rattle.script.specs.Laws.{Gives, ReadsBack, Points}
+use Rattle.script.specs.Laws.{ReadsBack, Points}
 use Rattle.script.specs.Scripts.{Contents, script, contents, Reads}
-use Rattle.script.specs.Writing.{Values, Within, values_of, written}
+use Rattle.script.specs.Writing.{values_of, written}
 use Rattle.words.specs.declared.fault.Fault.{Fault}
 use Rattle.script.specs.declared.script.Script.{Script}
 

@@ -1,8 +1,8 @@
 -- Faults point into the script.
-use Rattle.std.proofs.Common.{◌≡◌, ℕ, zero, suc, ◌+◌, ◌-◌, ◌^◌, ◌<◌, ◌≤◌, Bool, true, false, cond, not, ◌&&◌, eqb, ltb, leb, List, [], ◌∷◌, length, get_or, drop, Ok, Err, codes, Result, sym, refl, ap, ◌∙◌, arith}
+use Rattle.std.proofs.Common.{◌≡◌, ℕ, zero, suc, ◌^◌, ◌≤◌, ◌&&◌, eqb, ltb, leb, List, [], ◌∷◌, length, get_or, drop, Ok, Err, codes, Result, refl, arith}
 use Rattle.std.proofs.lemmas.List.{length-drop}
 use Rattle.std.proofs.lemmas.List.Sums.{prefix_len-le-length}
-use Rattle.std.proofs.lemmas.Bool.{leb-true, leb-false, cond_both}
+use Rattle.std.proofs.lemmas.Bool.{leb-false, cond_both}
 use Rattle.std.specs.Str.{bytes_eq}
 use Rattle.words.specs.Carriers.{bits}
 use Rattle.words.specs.Faults.{line_at, fault_at}
@@ -11,14 +11,14 @@ use Rattle.words.specs.Numbers.{is_number, value_of}
 use Rattle.words.specs.Reading.{Read, then}
 use Rattle.words.specs.Reading.Read.{got, stop}
 use Rattle.script.specs.Scripts.{Contents, master, block, edges, whole, script, outcome}
-use Rattle.sections.specs.Sections.{Row, row, rows, section, count_carriers}
+use Rattle.sections.specs.Sections.{row, rows, section, count_carriers}
 use Rattle.sections.specs.Lines.{bridge_carriers, burst_carriers}
 use Rattle.sections.specs.Values.{beat_carriers, code_carriers, part_carriers, gate_carriers}
 use Rattle.words.specs.Words.{of_word, word_length, word, keyword, number, separator, end}
 use Rattle.words.specs.declared.carrier.Carrier.{Carrier}
 use Rattle.words.specs.declared.fault.Fault.{Fault}
 use Rattle.words.specs.declared.fault.Wrong.{Wrong}
-use Rattle.words.specs.declared.fault.Wrong.TheVariants.{TooLong, NotDue, TooLarge, EndsEarly, Trailing}
+use Rattle.words.specs.declared.fault.Wrong.TheVariants.{NotDue, TooLarge, EndsEarly, Trailing}
 
 abbrev pub Points : List ℕ → Fault → Type 0
 Points s f = (f.place ≤ length s) × (f.line ≡ line_at s f.place)

@@ -1,5 +1,5 @@
 -- Sections and the whole script read back.
-use Rattle.std.proofs.Common.{◌≡◌, ℕ, zero, suc, ◌+◌, ◌^◌, ◌<◌, ◌≤◌, Bool, true, cond, leb, List, [], ◌∷◌, ◌++◌, map, length, get_or, drop, Ok, Err, codes, sym, refl, ap, ◌∙◌, append_assoc, arith}
+use Rattle.std.proofs.Common.{◌≡◌, ℕ, suc, ◌<◌, ◌≤◌, true, leb, List, [], ◌∷◌, ◌++◌, map, length, drop, Ok, codes, sym, refl, ap, ◌∙◌, append_assoc, arith}
 use Rattle.axi.specs.declared.burst.Burst.{Burst}
 use Rattle.axi.specs.declared.wires.Beat.{Beat}
 use Rattle.axi.specs.declared.wires.LowerRead.{LowerRead}
@@ -8,8 +8,8 @@ use Rattle.std.proofs.lemmas.Bool.{le-leb, cond-true}
 use Rattle.std.specs.List.{flat_map, AllByRecursion}
 use Rattle.script.proofs.Back.{ReadOn, on_then, all_of_word, numbers_on, headed_on}
 use Rattle.words.specs.Lines.{Fit, headed}
-use Rattle.words.specs.Reading.{Read, then}
-use Rattle.words.specs.Reading.Read.{got, stop}
+use Rattle.words.specs.Reading.{Read}
+use Rattle.words.specs.Reading.Read.{got}
 use Rattle.script.specs.Scripts.{MasterEntries, BlockEntries, Contents, master, block, edges, whole, script, outcome}
 use Rattle.sections.specs.Sections.{Row, row, rows, section, count_carriers}
 use Rattle.sections.specs.Lines.{bridge_carriers, burst_carriers}

@@ -1,5 +1,5 @@
 -- A script written out from its values.
-use Rattle.std.specs.Prelude.{ℕ, ◌+◌, ◌^◌, ◌<◌, ◌≤◌, cond, List, [], ◌∷◌, ◌++◌, map, length, codes, ◌==◌, nat_lt}
+use Rattle.std.specs.Prelude.{ℕ, ◌+◌, ◌^◌, ◌<◌, cond, List, [], ◌∷◌, ◌++◌, map, length, codes, ◌==◌, nat_lt}
 use Rattle.axi.specs.declared.burst.Burst.{Burst}
 use Rattle.axi.specs.declared.wires.Beat.{Beat}
 use Rattle.axi.specs.declared.wires.LowerRead.{LowerRead}

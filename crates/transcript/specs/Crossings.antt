@@ -1,5 +1,5 @@
 -- What crosses on an edge, and its lines in a transcript.
-use Rattle.std.specs.Prelude.{ℕ, Bool, true, false, List, [], ◌∷◌, ◌++◌, map, Some, None, codes, Option}
+use Rattle.std.specs.Prelude.{ℕ, List, [], ◌∷◌, ◌++◌, Some, None, codes, Option}
 use Rattle.std.specs.List.{flat_map}
 use Rattle.axi.specs.Codes.{code_number}
 use Rattle.axi.specs.Verdicts.{verdict_number}
@@ -10,7 +10,6 @@ use Rattle.axi.specs.declared.wires.Outputs.{Outputs}
 use Rattle.engines.specs.Queues.{when}
 use Rattle.bridge.specs.declared.report.Report.{Report}
 use Rattle.bridge.specs.declared.report.Verdicts.{Verdicts}
-use Rattle.engines.specs.declared.taken.Taken.{Taken}
 use Rattle.ledgers.specs.Lists.{one_if}
 use Rattle.transcript.specs.Printing.{numeral, row}
 use Rattle.transcript.specs.declared.print.Base.TheVariants.{Hex}

@@ -2,7 +2,7 @@
 use Rattle.std.specs.Prelude.{ℕ, ◌^◌, ◌<◌, List, [], ◌∷◌}
 use Rattle.words.specs.Carriers.{bits}
 use Rattle.words.specs.Reading.{Read, then}
-use Rattle.words.specs.Reading.Read.{got, stop}
+use Rattle.words.specs.Reading.Read.{got}
 use Rattle.words.specs.Words.{keyword, number, separator}
 use Rattle.words.specs.declared.carrier.Carrier.{Carrier}
 

@@ -1,5 +1,5 @@
 -- The write side of the bridge: its three queues and its engine.
-use Rattle.std.specs.Prelude.{ℕ, Bool, ◌&&◌, List, [], ◌++◌}
+use Rattle.std.specs.Prelude.{ℕ, ◌&&◌, List, [], ◌++◌}
 use Rattle.ring.specs.Entries.{entries, slot_count}
 use Rattle.axi.specs.declared.plan.Plan.{Plan}
 use Rattle.axi.specs.declared.wires.Beat.{Beat}

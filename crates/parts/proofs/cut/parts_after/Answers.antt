@@ -1,4 +1,4 @@
-use Rattle.std.proofs.Common.{◌≡◌, ◌/◌, ◌^◌, ◌<◌, ◌∷◌, sym, ◌∙◌, subst, ap₂, arith}
+use Rattle.std.proofs.Common.{◌/◌, ◌∷◌, sym, ◌∙◌, subst, ap₂, arith}
 use Rattle.axi.specs.Bursts.{bytes}
 use Rattle.parts.specs.Parts.{further, Parted}
 use Rattle.axi.proofs.Sizes.{bytes_power}

@@ -1,8 +1,8 @@
-use Rattle.std.proofs.Common.{◌≡◌, ◌+◌, [], ◌∷◌, length, vec_items, sym, ap, ◌∙◌, arith}
+use Rattle.std.proofs.Common.{◌≡◌, ◌+◌, [], length, vec_items, sym, ap, ◌∙◌, arith}
 use Rattle.bridge.specs.Edges.{settings}
 use Rattle.bridge.specs.Machines.{seen}
 use Rattle.sections.specs.Sections.{section_text}
-use Rattle.sections.specs.Values.{GateAt, gates, gate_at}
+use Rattle.sections.specs.Values.{gates, gate_at}
 use Rattle.playback.proofs.Playing.{played_off, played_none, turn, turn_bytes, closed}
 use Rattle.transcript.specs.Crossings.{there}
 use Rattle.playback.specs.Entries.{stock}

@@ -1,7 +1,7 @@
 use Rattle.std.proofs.Common.{◌/◌, ◌<◌, [], ◌∷◌, vec_items, append_assoc, arith}
 use Rattle.std.proofs.lemmas.Slice.{pushed}
 use Rattle.transcript.proofs.Digits.{digits_step}
-use Rattle.transcript.specs.Printing.{digits_of, digit_byte}
+use Rattle.transcript.specs.Printing.{digits_of}
 use Rattle.transcript.proofs.print.+digits.Goals as goal
 
 pub returns : goal.returns

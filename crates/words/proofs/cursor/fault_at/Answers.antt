@@ -1,5 +1,4 @@
 use Rattle.std.proofs.Common.{rules}
-use Rattle.words.specs.Faults.{fault_at}
 use Rattle.words.proofs.cursor.fault_at.Goals as goal
 
 pub returns : goal.returns

@@ -1,4 +1,4 @@
-use Rattle.std.proofs.Common.{◌≡◌, ◌^◌, ◌<◌, arith, rules}
+use Rattle.std.proofs.Common.{◌≡◌, arith, rules}
 use Rattle.parts.specs.Addresses.{here}
 use Rattle.parts.proofs.Bounds.{carried_whole}
 use Rattle.parts.proofs.walk.Walk.next_address.Goals as goal

@@ -1,4 +1,4 @@
-use Rattle.std.proofs.Common.{◌≡◌, refl}
+use Rattle.std.proofs.Common.{refl}
 use Rattle.words.specs.Cursors.{text}
 use Rattle.sections.proofs.Rows.{left_first, left_none}
 use Rattle.sections.proofs.section.Section.next_row.Goals as goal

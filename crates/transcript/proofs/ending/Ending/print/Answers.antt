@@ -1,8 +1,8 @@
-use Rattle.std.proofs.Common.{◌≡◌, ℕ, List, [], ◌∷◌, ◌++◌, vec_items, codes, sym, ap, ◌∙◌}
+use Rattle.std.proofs.Common.{◌++◌, vec_items, sym, ap, ◌∙◌}
 use Rattle.std.proofs.lemmas.Result.{IfOk-weaker}
 use Rattle.transcript.proofs.Rows.{owed_line, fault_line}
-use Rattle.transcript.specs.Endings.{ending_line, owed_numbers, fault_numbers}
-use Rattle.transcript.specs.Faults.{layer_name, fault_layer}
+use Rattle.transcript.specs.Endings.{ending_line}
+use Rattle.transcript.specs.Faults.{layer_name}
 use Rattle.transcript.proofs.ending.Ending.print.Goals as goal
 
 pub returns-in_ok-word-in-Owed : goal.returns-in_ok-word-in-Owed

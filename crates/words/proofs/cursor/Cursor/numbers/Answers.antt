@@ -1,8 +1,7 @@
-use Rattle.std.proofs.Common.{◌≡◌, ◌+◌, ◌<◌, length, drop, refl, ◌∙◌, arith, rules}
+use Rattle.std.proofs.Common.{◌+◌, ◌<◌, length, refl, ◌∙◌, arith}
 use Rattle.std.proofs.lemmas.List.{length-replicate, length-set}
 use Rattle.std.proofs.lemmas.Result.{err_from_is_err_and}
 use Rattle.words.specs.Cursors.{text}
-use Rattle.words.specs.Lines.{separator_before}
 use Rattle.words.specs.declared.carrier.Carrier.TheVariants.{Bits8}
 use Rattle.words.proofs.Steps.{through, prefixed_none, sep_at, line_more, line_refused, line_parted, line_all, numbers_fit}
 use Rattle.words.proofs.cursor.Cursor.numbers.Goals as goal
