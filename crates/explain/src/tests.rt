@@ -1,5 +1,7 @@
 //! Bad input, and what the user is told of it.
 use crate::parse::{Item, read_items};
+use std::alloc::AllocGlobal;
+use std::process::Abort;
 use std::test::*;
 
 /// Passes where the input is refused with these words.

@@ -19,7 +19,8 @@ fn pass<const N: usize>(
     carriers: &[Carrier; N],
     count: u64,
 ) -> Result<(), Fault>
-    requires { N ≤ 8 }
+    requires size { length carriers.now ≡ N }
+    requires few { N ≤ 8 }
     ensures same { text cursor.new ≡ text cursor.old }
     ensures read { ToldAs (λ _. rows_left carriers.now count (text cursor.old) cursor.old.at) (rows carriers.now count (text cursor.old) cursor.old.at) cursor.new.at result }
 {
@@ -87,6 +88,7 @@ impl<'a> Section<'a> {
         carriers: &[Carrier; N],
     ) -> Result<Section<'a>, Fault>
         requires keyword { is_number due.now ≡ false }
+        requires size { length carriers.now ≡ N }
         requires few { N ≤ 8 }
         ensures same { text cursor.new ≡ text cursor.old }
         ensures read { ToldAs (section_rows carriers.now) (section due.now carriers.now (text cursor.old) cursor.old.at) cursor.new.at result }

@@ -1,5 +1,5 @@
 //! Lines of numbers.
-ghost use Rattle.std.specs.Prelude.{◌≡◌, ◌+◌, ◌<◌, ◌≤◌, false, IfOk, if◌then◌else◌, nat_lt};
+ghost use Rattle.std.specs.Prelude.{◌≡◌, ◌+◌, ◌<◌, ◌≤◌, false, length, IfOk, if◌then◌else◌, nat_lt};
 ghost use Rattle.words.specs.Cursors.{text};
 ghost use Rattle.words.specs.Lines.{numbers, headed, Fit};
 ghost use Rattle.words.specs.Numbers.{is_number};
@@ -20,6 +20,7 @@ fn separator_after(i: usize, count: usize) -> u8
 impl<'a> Cursor<'a> {
     /// The numbers of a line, one for each carrier: a space between two, a line end after the last.
     pub fn numbers<const N: usize>(&mut self, carriers: &[Carrier; N]) -> Result<[u64; N], Fault>
+        requires { length carriers.now ≡ N }
         ensures same { text self.new ≡ text self.old }
         ensures read { Told (numbers carriers.now (text self.old) self.old.at) self.new.at result }
         ensures fit { IfOk result (λ vs. Fit carriers.now vs) }
@@ -40,6 +41,7 @@ impl<'a> Cursor<'a> {
         carriers: &[Carrier; N],
     ) -> Result<[u64; N], Fault>
         requires keyword { is_number due.now ≡ false }
+        requires size { length carriers.now ≡ N }
         ensures same { text self.new ≡ text self.old }
         ensures read { Told (headed due.now carriers.now (text self.old) self.old.at) self.new.at result }
         ensures fit { IfOk result (λ vs. Fit carriers.now vs) }
