@@ -4,6 +4,9 @@
 
 #![tactic(auto)]
 
+ghost use Rattle.axi.specs.Plans.{refused_plan};
+ghost use Rattle.std.specs.Prelude.{◌≡◌, ◌≢◌, None};
+
 mod load;
 
 use axi::plan::Plan;
@@ -42,7 +45,9 @@ fn drive(plan: Plan, edges: u64, stalls: bool) -> u64 {
 ///
 /// The settings come from outside so that the compiler makes no bridge for one plan alone.
 #[unsafe(no_mangle)]
-pub extern "C" fn traffic_sum(upper: u8, lower: u8, level: u8, edges: u64, stalls: bool) -> u64 {
+pub extern "C" fn traffic_sum(upper: u8, lower: u8, level: u8, edges: u64, stalls: bool) -> u64
+    ensures { refused_plan upper lower level ≢ None → result ≡ 0 }
+{
     match Plan::new(upper, lower, level) {
         Ok(plan) => drive(plan, edges, stalls),
         Err(_) => 0,

@@ -25,10 +25,9 @@ impl<'a> Cursor<'a> {
         ensures read { Told (numbers carriers.now (text self.old) self.old.at) self.new.at result }
         ensures fit { IfOk result (λ vs. Fit carriers.now vs) }
     {
-        let list = &carriers[..];
         let mut values = [0; N];
         for i in 0..N {
-            values[i] = self.number(list[i])?;
+            values[i] = self.number(carriers[i])?;
             self.separator(separator_after(i, N))?;
         }
         Ok(values)
