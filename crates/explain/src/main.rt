@@ -10,6 +10,9 @@ mod show;
 #[cfg(test)]
 mod tests;
 
+ghost use Rattle.std.specs.Prelude.{◌≡◌, MatchResult};
+ghost use Rattle.std.specs.Process.{exit_status};
+
 use failure::Failure;
 use parse::read_items;
 use std::io::Read;
@@ -75,12 +78,20 @@ fn run(rt: &HostRuntime) -> Result<(), Failure> {
     explain(rt, text.as_slice())
 }
 
-fn main(rt: HostRuntime) -> ExitCode {
-    match run(&rt) {
+/// The status that the program ends with: 0, or 1 where it fails.
+fn status(outcome: &Result<(), Failure>) -> ExitCode
+    ensures { MatchResult outcome.now (λ _. exit_status result ≡ 0) (λ _. exit_status result ≡ 1) }
+{
+    match outcome {
         Ok(()) => ExitCode::SUCCESS,
-        Err(failure) => {
-            let _ = eprintln!(rt; "explain: {failure}");
-            ExitCode::FAILURE
-        }
+        Err(_) => ExitCode::FAILURE,
     }
+}
+
+fn main(rt: HostRuntime) -> ExitCode {
+    let outcome = run(&rt);
+    if let Err(failure) = &outcome {
+        let _ = eprintln!(rt; "explain: {failure}");
+    }
+    status(&outcome)
 }

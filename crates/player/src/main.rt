@@ -4,7 +4,8 @@
 
 mod failure;
 
-ghost use Rattle.std.specs.Prelude.{◌≤◌, length, IfOk};
+ghost use Rattle.std.specs.Prelude.{◌≡◌, ◌≤◌, length, IfOk, MatchResult};
+ghost use Rattle.std.specs.Process.{exit_status};
 
 use failure::Failure;
 use playback::play::play;
@@ -95,13 +96,22 @@ fn run(rt: &HostRuntime) -> Result<(), Failure> {
     }
 }
 
-fn main(rt: HostRuntime) -> ExitCode {
-    match run(&rt) {
+/// The status that the program ends with: 0, or 1 where it fails.
+fn status(outcome: &Result<(), Failure>) -> ExitCode
+    ensures { MatchResult outcome.now (λ _. exit_status result ≡ 0) (λ _. exit_status result ≡ 1) }
+{
+    match outcome {
         Ok(()) => ExitCode::SUCCESS,
-        Err(Failure::Fault) => ExitCode::FAILURE,
-        Err(failure) => {
+        Err(_) => ExitCode::FAILURE,
+    }
+}
+
+fn main(rt: HostRuntime) -> ExitCode {
+    let outcome = run(&rt);
+    if let Err(failure) = &outcome {
+        if !matches!(failure, Failure::Fault) {
             let _ = eprintln!(rt; "player: {failure}");
-            ExitCode::FAILURE
         }
     }
+    status(&outcome)
 }
