@@ -35,7 +35,7 @@ fn read_part(plan: Plan, at: u32, lr: LowerRead) -> ReadAnswer
 {
     ReadAnswer {
         rdata: raise(plan, at, lr.lrdata),
-        code: Code::read(lr.lrresp),
+        code: Code::from(lr.lrresp),
     }
 }
 

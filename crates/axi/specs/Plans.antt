@@ -1,5 +1,5 @@
 -- The settings of a bridge: widths in bytes, level, and when there is no such plan.
-use Rattle.std.specs.Prelude.{ℕ, Bool, not, ◌&&◌, ◌||◌, [], ◌∷◌, Some, None, Option, ◌==◌, nat_lt}
+use Rattle.std.specs.Prelude.{ℕ, Bool, not, ◌&&◌, ◌||◌, [], ◌∷◌, Some, None, Option, Result, MatchResult, ◌≡◌, ◌==◌, nat_lt}
 use Rattle.axi.specs.First.{first_that}
 use Rattle.axi.specs.declared.plan.Widths.{Widths}
 use Rattle.axi.specs.declared.plan.Widths.TheVariants.{FourOverFour, EightOverFour, EightOverEight}
@@ -51,3 +51,11 @@ refuses_plan u l v Level = nat_lt 2 v
 -- the first refusal that holds, in the order of their numbers
 abbrev pub refused_plan : ℕ → ℕ → ℕ → Option PlanRefusal
 refused_plan u l v = first_that (refuses_plan u l v) (λ e. Some e) None (Width ∷ LowerAboveUpper ∷ Level ∷ [])
+
+-- widths in bytes give the two buses, or the first refusal that they meet at a legal level
+abbrev pub ReadsWidths : ℕ × ℕ → Result Widths PlanRefusal → Type 0
+ReadsWidths w r = MatchResult r (λ x. (upper_width x ≡ w.0) × (lower_width x ≡ w.1)) (λ e. refused_plan w.0 w.1 0 ≡ Some e)
+
+-- a number gives the level that it stands for, or the refusal that it meets at legal widths
+abbrev pub ReadsLevel : ℕ → Result declared_level.Level PlanRefusal → Type 0
+ReadsLevel v r = MatchResult r (λ x. level_number x ≡ v) (λ e. refused_plan 4 4 v ≡ Some e)

@@ -15,6 +15,19 @@ pub enum Kind {
     Reserved,
 }
 
+impl From<u8> for Kind {
+    ghost from_gives = { λ burst kind. kind ≡ kind_of burst };
+
+    fn from(burst: u8) -> Kind {
+        match burst {
+            0 => Kind::Fixed,
+            1 => Kind::Incr,
+            2 => Kind::Wrap,
+            _ => Kind::Reserved,
+        }
+    }
+}
+
 /// A burst as AW or AR carries it.
 #[derive(Clone, Copy)]
 pub struct Burst {
@@ -59,12 +72,7 @@ impl Burst {
     pub fn kind(self) -> Kind
         ensures { result ≡ kind_of self.burst }
     {
-        match self.burst {
-            0 => Kind::Fixed,
-            1 => Kind::Incr,
-            2 => Kind::Wrap,
-            _ => Kind::Reserved,
-        }
+        Kind::from(self.burst)
     }
 
     /// Whether every field has a value that its wires can carry.

@@ -10,18 +10,20 @@ pub enum Code {
     DecErr = 3,
 }
 
-impl Code {
-    /// The number that the wires carry.
-    pub fn number(self) -> u8
-        ensures { result ≡ code_number self }
-    {
-        self as u8
-    }
+/// The number that the wires carry.
+impl From<Code> for u8 {
+    ghost from_gives = { λ code n. n ≡ code_number code };
 
-    /// A response of the block as the bridge reads it: EXOKAY counts as OKAY.
-    pub fn read(resp: u8) -> Code
-        ensures { result ≡ read_code resp }
-    {
+    fn from(code: Code) -> u8 {
+        code as u8
+    }
+}
+
+/// A response of the block as the bridge reads it: EXOKAY counts as OKAY.
+impl From<u8> for Code {
+    ghost from_gives = { λ resp code. code ≡ read_code resp };
+
+    fn from(resp: u8) -> Code {
         match resp {
             0 | 1 => Code::Okay,
             2 => Code::SlvErr,

@@ -1,6 +1,6 @@
 //! The settings of a bridge: the widths of both buses and the level of protection.
 ghost use Rattle.std.specs.Prelude.{◌≡◌, ℕ, Some, None, Ok, Err};
-ghost use Rattle.axi.specs.Plans.{upper_bytes, lower_bytes, level_number, plan_refusal_number, refused_plan};
+ghost use Rattle.axi.specs.Plans.{upper_bytes, lower_bytes, level_number, plan_refusal_number, refused_plan, ReadsWidths, ReadsLevel};
 
 /// The widths of the upper and the lower bus in bytes. The lower bus is never the wider one.
 #[derive(Clone, Copy)]
@@ -8,6 +8,23 @@ pub enum Widths {
     FourOverFour,
     EightOverFour,
     EightOverEight,
+}
+
+/// The widths of the upper and the lower bus by their bytes.
+impl TryFrom<(u8, u8)> for Widths {
+    type Error = PlanRefusal;
+
+    ghost try_from_gives = { ReadsWidths };
+
+    fn try_from(widths: (u8, u8)) -> Result<Widths, PlanRefusal> {
+        match widths {
+            (4, 4) => Ok(Widths::FourOverFour),
+            (8, 4) => Ok(Widths::EightOverFour),
+            (8, 8) => Ok(Widths::EightOverEight),
+            (4, 8) => Err(PlanRefusal::LowerAboveUpper),
+            _ => Err(PlanRefusal::Width),
+        }
+    }
 }
 
 /// What the bridge converts, and from what it protects the block.
@@ -21,12 +38,28 @@ pub enum Level {
     FullProtection,
 }
 
-impl Level {
-    /// The number that stands for the level in a plan line.
-    pub fn number(self) -> u8
-        ensures { result ≡ level_number self }
-    {
-        self as u8
+/// The number that stands for the level in a plan line.
+impl From<Level> for u8 {
+    ghost from_gives = { λ level n. n ≡ level_number level };
+
+    fn from(level: Level) -> u8 {
+        level as u8
+    }
+}
+
+/// The level that a number stands for.
+impl TryFrom<u8> for Level {
+    type Error = PlanRefusal;
+
+    ghost try_from_gives = { ReadsLevel };
+
+    fn try_from(level: u8) -> Result<Level, PlanRefusal> {
+        match level {
+            0 => Ok(Level::FullConversion),
+            1 => Ok(Level::SimpleConversion),
+            2 => Ok(Level::FullProtection),
+            _ => Err(PlanRefusal::Level),
+        }
     }
 }
 
@@ -41,12 +74,12 @@ pub enum PlanRefusal {
     Level = 3,
 }
 
-impl PlanRefusal {
-    /// The number of the refusal.
-    pub fn number(self) -> u8
-        ensures { result ≡ plan_refusal_number self }
-    {
-        self as u8
+/// The number of the refusal.
+impl From<PlanRefusal> for u8 {
+    ghost from_gives = { λ refusal n. n ≡ plan_refusal_number refusal };
+
+    fn from(refusal: PlanRefusal) -> u8 {
+        refusal as u8
     }
 }
 
@@ -62,19 +95,8 @@ impl Plan {
     pub fn new(upper: u8, lower: u8, level: u8) -> Result<Plan, PlanRefusal>
         ensures { elim result [ Ok p ↦ (refused_plan upper lower level ≡ None) × (upper_bytes p ≡ upper) × (lower_bytes p ≡ lower) × (level_number p.level ≡ level) | Err e ↦ refused_plan upper lower level ≡ Some e ] }
     {
-        let widths = match (upper, lower) {
-            (4, 4) => Widths::FourOverFour,
-            (8, 4) => Widths::EightOverFour,
-            (8, 8) => Widths::EightOverEight,
-            (4, 8) => return Err(PlanRefusal::LowerAboveUpper),
-            _ => return Err(PlanRefusal::Width),
-        };
-        let level = match level {
-            0 => Level::FullConversion,
-            1 => Level::SimpleConversion,
-            2 => Level::FullProtection,
-            _ => return Err(PlanRefusal::Level),
-        };
+        let widths = Widths::try_from((upper, lower))?;
+        let level = Level::try_from(level)?;
         Ok(Plan { widths, level })
     }
 

@@ -34,14 +34,16 @@ pub enum Verdict {
     LockedOrCached,
 }
 
-impl Verdict {
-    /// The number of the verdict.
-    pub fn number(self) -> u8
-        ensures { result ≡ verdict_number self }
-    {
-        self as u8
-    }
+/// The number of the verdict.
+impl From<Verdict> for u8 {
+    ghost from_gives = { λ verdict n. n ≡ verdict_number verdict };
 
+    fn from(verdict: Verdict) -> u8 {
+        verdict as u8
+    }
+}
+
+impl Verdict {
     /// Whether the burst goes down.
     pub fn is_forwarded(self) -> bool
         ensures { result ≡ is_forwarded self }

@@ -74,7 +74,7 @@ impl Task<Code> {
     pub fn answer(self, plan: Plan, part: Part, lbresp: u8) -> Writer
         ensures { writer_view plan result ≡ with_parts (pieces plan) (joining plan) (task_burst self) self.walk.count (join_codes (task_sum self) (read_code lbresp)) (parts_after plan self part) }
     {
-        self.join(Code::read(lbresp))
+        self.join(Code::from(lbresp))
             .with_parts(plan, part.beat, parts_after(plan, part.parts))
     }
 

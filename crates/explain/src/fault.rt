@@ -187,7 +187,7 @@ impl fmt::Display for Reason {
             }
             Reason::Number(bad) => write!(f, "{bad}"),
             Reason::Plan(refusal) => {
-                let number = refusal.number();
+                let number = u8::from(refusal);
                 let words = plan_words(refusal);
                 write!(f, "refusal {number}, {words}")
             }

@@ -54,7 +54,7 @@ struct Ruling(Verdict);
 
 impl fmt::Display for Ruling {
     fn fmt<W: fmt::Write>(&self, f: &mut fmt::Formatter<W>) -> fmt::Result {
-        let number = self.0.number();
+        let number = u8::from(self.0);
         let words = verdict_words(self.0);
         write!(f, "{number} {words}")
     }
@@ -148,7 +148,7 @@ fn show_burst<W: fmt::Write>(f: &mut fmt::Formatter<W>, plan: Plan, burst: Burst
 fn show_plan<W: fmt::Write>(f: &mut fmt::Formatter<W>, plan: Plan) -> fmt::Result {
     let upper = plan.upper();
     let lower = plan.lower();
-    let level = plan.level.number();
+    let level = u8::from(plan.level);
     let words = level_words(plan.level);
     writeln!(
         f,

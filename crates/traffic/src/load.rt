@@ -120,7 +120,7 @@ impl Load {
             ^ shown.lw.wdata
             ^ (shown.law.addr as u64) << 16
             ^ (shown.lar.addr as u64) << 24
-            ^ (shown.b.code.number() as u64) << 60;
+            ^ (u8::from(shown.b.code) as u64) << 60;
         self.sum = self.sum.rotate_left(5) ^ word;
     }
 }

@@ -53,17 +53,18 @@ impl Crossing {
         match self {
             Crossing::Aw(taken) | Crossing::Ar(taken) => {
                 let id = taken.burst.id as u128;
-                numbers(out, Base::Hex, &[id, taken.verdict.number() as u128])
+                let verdict = u8::from(taken.verdict) as u128;
+                numbers(out, Base::Hex, &[id, verdict])
             }
             Crossing::W(beat) | Crossing::Lw(beat) => {
                 numbers(out, Base::Hex, &[beat.wdata as u128, beat.wstrb as u128])
             }
             Crossing::B(answer) => {
-                let code = answer.code.number() as u128;
+                let code = u8::from(answer.code) as u128;
                 numbers(out, Base::Hex, &[answer.id as u128, code])
             }
             Crossing::R(beat) => {
-                let code = beat.code.number() as u128;
+                let code = u8::from(beat.code) as u128;
                 let last = beat.last as u128;
                 numbers(
                     out,

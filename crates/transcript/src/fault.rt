@@ -42,8 +42,8 @@ impl Refused {
         ensures { result ≡ refused_number self }
     {
         match self {
-            Refused::Plan(refusal) => refusal.number(),
-            Refused::Edge(refusal) => refusal.number(),
+            Refused::Plan(refusal) => u8::from(refusal),
+            Refused::Edge(refusal) => u8::from(refusal),
         }
     }
 }

@@ -80,15 +80,15 @@ fn verdicts(rt: HostRuntime) {
         (WRAP, 0x1002, 2, 2, 4),
         (WRAP, 0x1002, 2, 3, 5),
     ] {
-        assert_eq!(rt; p.judge(burst(kind, addr, size, len)).number(), verdict);
+        assert_eq!(rt; u8::from(p.judge(burst(kind, addr, size, len))), verdict);
     }
     let cached = Burst {
         cache: 3,
         ..burst(INCR, 0x1000, 1, 0)
     };
-    assert_eq!(rt; plan(Level::SimpleConversion).judge(cached).number(), 0);
-    assert_eq!(rt; plan(Level::FullProtection).judge(cached).number(), 9);
-    assert_eq!(rt; p.judge_protected(cached).number(), 9);
+    assert_eq!(rt; u8::from(plan(Level::SimpleConversion).judge(cached)), 0);
+    assert_eq!(rt; u8::from(plan(Level::FullProtection).judge(cached)), 9);
+    assert_eq!(rt; u8::from(p.judge_protected(cached)), 9);
 }
 
 #[test]
@@ -145,14 +145,14 @@ fn data_that_fit(rt: HostRuntime) {
         assert_eq!(rt; p.read_part_fits(r), fits);
     }
     assert!(rt; code_fits(3) && !code_fits(4));
-    assert_eq!(rt; Code::read(1).number(), 0);
+    assert_eq!(rt; u8::from(Code::from(1)), 0);
 }
 
 /// The number of the refusal, 0 for none.
 fn refusal(upper: u8, lower: u8, level: u8) -> u8 {
     match Plan::new(upper, lower, level) {
         Ok(_) => 0,
-        Err(e) => e.number(),
+        Err(e) => u8::from(e),
     }
 }
 

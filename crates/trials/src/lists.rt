@@ -85,7 +85,7 @@ fn fields_in_their_order(rt: HostRuntime) -> Result<(), Fail> {
         return Err(Fail::new("no burst"));
     };
     assert_eq!(rt;
-        (plan.upper(), plan.lower(), plan.level.number()),
+        (plan.upper(), plan.lower(), u8::from(plan.level)),
         (8, 4, 1)
     );
     assert_eq!(rt;
