@@ -1,4 +1,3 @@
 pub mod Digits
 pub mod Inverse
-pub mod Keywords
 pub mod Steps

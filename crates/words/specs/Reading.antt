@@ -1,5 +1,7 @@
 -- What comes of reading at a place: a value and the place after it, or a fault.
-use Rattle.std.specs.Prelude.{◌≡◌, ℕ, Ok, Err, Result}
+use Rattle.std.specs.Prelude.{◌≡◌, ℕ, List, Ok, Err, Result}
+use Rattle.words.specs.Cursors.{text}
+use Rattle.words.specs.declared.cursor.Cursor.{Cursor}
 use Rattle.words.specs.declared.fault.Fault.{Fault}
 
 pub data Read (X : Type 0) : Type 0 where
@@ -18,3 +20,11 @@ ToldAs seen reading after (Err fault) = reading ≡ stop fault
 
 abbrev pub Told : {X : Type 0} → Read X → ℕ → Result X Fault → Type 0
 Told reading after r = ToldAs (λ x. x) reading after r
+
+-- a call that reads at a cursor: the script stays, and the call tells what is read there, with the cursor behind it
+pub record ReadsAs {X Y : Type 0} (seen : X → Y) (reading : List ℕ → ℕ → Read Y) (before after : Cursor) (r : Result X Fault) : Type 0 where
+  pub same : text after ≡ text before
+  pub read : ToldAs seen (reading (text before) before.at) after.at r
+
+abbrev pub Reads : {X : Type 0} → (List ℕ → ℕ → Read X) → Cursor → Cursor → Result X Fault → Type 0
+Reads reading before after r = ReadsAs (λ x. x) reading before after r

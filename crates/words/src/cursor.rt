@@ -10,21 +10,10 @@ ghost use Rattle.words.specs.declared.fault.Wrong.TheVariants.{EndsEarly};
 use crate::fault::{Fault, Wrong};
 
 /// A place in a script that is lent. Nothing is copied.
-#[derive(Clone, Copy)]
+#[derive(Clone, Copy, Debug, PartialEq, Eq)]
 pub struct Cursor<'a> {
     script: &'a [u8],
     at: usize,
-}
-
-/// The bytes before a place.
-fn before(script: &[u8], place: usize) -> &[u8]
-    ensures { result.now ≡ take place script.now }
-{
-    if place < script.len() {
-        &script[0..place]
-    } else {
-        script
-    }
 }
 
 /// How many line ends there are.
@@ -32,31 +21,7 @@ fn line_ends(bytes: &[u8]) -> usize
     ensures count { result ≡ line_ends bytes.now }
     ensures small { result < 2 ^ 63 }
 {
-    let mut n = 0;
-    for b in bytes {
-        if *b == b'\n' {
-            n += 1;
-        }
-    }
-    n
-}
-
-/// The line of a place, from 1.
-fn line_at(script: &[u8], place: usize) -> usize
-    ensures { result ≡ line_at script.now place }
-{
-    1 + line_ends(before(script, place))
-}
-
-/// A fault at a place.
-fn fault_at(script: &[u8], wrong: Wrong, place: usize) -> Fault
-    ensures { result ≡ fault_at script.now wrong place }
-{
-    Fault {
-        wrong,
-        line: line_at(script, place),
-        place,
-    }
+    bytes.iter().filter(|b| **b == b'\n').count()
 }
 
 impl<'a> Cursor<'a> {
@@ -79,7 +44,7 @@ impl<'a> Cursor<'a> {
     pub fn line(self) -> usize
         ensures { result ≡ line_at (text self.entry) self.entry.at }
     {
-        line_at(self.script, self.at)
+        1 + line_ends(self.before())
     }
 
     /// Whether no byte is left.
@@ -93,13 +58,28 @@ impl<'a> Cursor<'a> {
     pub fn fault(self, wrong: Wrong) -> Fault
         ensures { result ≡ fault_at (text self.entry) wrong self.entry.at }
     {
-        fault_at(self.script, wrong, self.at)
+        Fault {
+            wrong,
+            line: self.line(),
+            place: self.at,
+        }
+    }
+
+    /// The script before the cursor.
+    fn before(self) -> &'a [u8]
+        ensures { result.now ≡ take self.entry.at (text self.entry) }
+    {
+        self.script.get(..self.at).unwrap_or(self.script)
     }
 
     /// The fault of a script that ends too early.
     fn ended(self) -> Fault
         ensures { result ≡ fault_at (text self.entry) EndsEarly (length (text self.entry)) }
     {
-        fault_at(self.script, Wrong::EndsEarly, self.script.len())
+        let end = Cursor {
+            at: self.script.len(),
+            ..self
+        };
+        end.fault(Wrong::EndsEarly)
     }
 }

@@ -24,14 +24,16 @@ pub enum Wrong {
     Trailing = 24,
 }
 
-impl Wrong {
-    /// The number of the fault.
-    pub fn number(self) -> u8
-        ensures { result ≡ wrong_number self }
-    {
-        self as u8
-    }
+impl From<Wrong> for u8 {
+    ghost from_gives = { λ w r. r ≡ wrong_number w };
 
+    /// The number of the fault.
+    fn from(wrong: Wrong) -> u8 {
+        wrong as u8
+    }
+}
+
+impl Wrong {
     /// The layer of the fault.
     pub fn layer(self) -> Layer
         ensures { result ≡ layer_of self }

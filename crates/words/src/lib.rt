@@ -5,5 +5,5 @@
 pub mod carrier;
 pub mod cursor;
 pub mod fault;
-mod hex;
+pub mod hex;
 pub mod word;

@@ -1,9 +1,7 @@
 //! Lines of numbers.
-ghost use Rattle.std.specs.Prelude.{◌≡◌, ◌+◌, ◌<◌, ◌≤◌, false, length, IfOk, if◌then◌else◌, nat_lt};
-ghost use Rattle.words.specs.Cursors.{text};
+ghost use Rattle.std.specs.Prelude.{◌≡◌, ◌+◌, ◌<◌, ◌≤◌, IfOk, if◌then◌else◌, nat_lt};
 ghost use Rattle.words.specs.Lines.{numbers, headed, Fit};
-ghost use Rattle.words.specs.Numbers.{is_number};
-ghost use Rattle.words.specs.Reading.{Told};
+ghost use Rattle.words.specs.Reading.{Reads};
 
 use crate::carrier::Carrier;
 use crate::cursor::Cursor;
@@ -20,14 +18,12 @@ fn separator_after(i: usize, count: usize) -> u8
 impl<'a> Cursor<'a> {
     /// The numbers of a line, one for each carrier: a space between two, a line end after the last.
     pub fn numbers<const N: usize>(&mut self, carriers: &[Carrier; N]) -> Result<[u64; N], Fault>
-        requires { length carriers.now ≡ N }
-        ensures same { text self.new ≡ text self.old }
-        ensures read { Told (numbers carriers.now (text self.old) self.old.at) self.new.at result }
+        ensures reads { Reads (numbers carriers.now) self.old self.new result }
         ensures fit { IfOk result (λ vs. Fit carriers.now vs) }
     {
         let mut values = [0; N];
-        for i in 0..N {
-            values[i] = self.number(carriers[i])?;
+        for (i, carrier) in carriers.iter().enumerate() {
+            values[i] = self.number(*carrier)?;
             self.separator(separator_after(i, N))?;
         }
         Ok(values)
@@ -39,10 +35,7 @@ impl<'a> Cursor<'a> {
         due: &[u8],
         carriers: &[Carrier; N],
     ) -> Result<[u64; N], Fault>
-        requires keyword { is_number due.now ≡ false }
-        requires size { length carriers.now ≡ N }
-        ensures same { text self.new ≡ text self.old }
-        ensures read { Told (headed due.now carriers.now (text self.old) self.old.at) self.new.at result }
+        ensures reads { Reads (headed due.now carriers.now) self.old self.new result }
         ensures fit { IfOk result (λ vs. Fit carriers.now vs) }
     {
         self.keyword(due)?;

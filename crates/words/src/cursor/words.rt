@@ -1,13 +1,11 @@
 //! The next word, number, keyword or separator.
-ghost use Rattle.std.specs.Prelude.{◌≡◌, ◌+◌, ◌<◌, ◌≤◌, true, false, length, if◌then◌else◌, Ok, Err};
+ghost use Rattle.std.specs.Prelude.{◌≡◌, ◌+◌, ◌<◌, ◌≤◌, true, false, length, if◌then◌else◌, Ok, Err, IfOk};
 ghost use Rattle.std.specs.List.{prefix_len};
-ghost use Rattle.std.specs.Str.{bytes_eq};
 ghost use Rattle.words.specs.Cursors.{text};
 ghost use Rattle.words.specs.Faults.{fault_at};
 ghost use Rattle.words.specs.Numbers.{is_number, value_of};
-ghost use Rattle.words.specs.Reading.Read.{stop};
-ghost use Rattle.words.specs.Reading.{Told};
-ghost use Rattle.words.specs.Words.{held_by, of_word, word_length, word_at, word, keyword, number, separator, end, Passed};
+ghost use Rattle.words.specs.Reading.{Told, Reads, ReadsAs};
+ghost use Rattle.words.specs.Words.{held_by, of_word, word_length, word_at, word, word_bytes, keyword, number, separator, end, Passed};
 ghost use Rattle.words.specs.declared.fault.Wrong.TheVariants.{TooLarge};
 
 use crate::carrier::Carrier;
@@ -15,9 +13,6 @@ use crate::cursor::Cursor;
 use crate::fault::{Fault, Wrong};
 use crate::hex::{all_digits, value};
 use crate::word::{Piece, Word};
-
-/// The largest number of digits.
-const DIGITS: usize = 16;
 
 /// Whether a byte belongs to a word.
 fn of_word(b: u8) -> bool
@@ -31,19 +26,7 @@ fn word_length(rest: &[u8]) -> usize
     ensures count { result ≡ prefix_len of_word rest.now }
     ensures within { result ≤ length rest.now }
 {
-    for (i, b) in rest.iter().enumerate() {
-        if !of_word(*b) {
-            return i;
-        }
-    }
-    rest.len()
-}
-
-/// Whether two words are the same.
-fn same(a: &[u8], b: &[u8]) -> bool
-    ensures { result ≡ bytes_eq a.now b.now }
-{
-    a == b
+    rest.iter().take_while(|b| of_word(**b)).count()
 }
 
 /// The number that the digits of a word write, if this carrier holds it.
@@ -51,14 +34,10 @@ fn held(piece: Piece, carrier: Carrier) -> Result<u64, Fault>
     requires { is_number piece.bytes.now ≡ true }
     ensures { result ≡ (if held_by carrier piece.entry.bytes.now then Ok (value_of piece.entry.bytes.now) else Err (fault_at (text piece.entry.at) TooLarge piece.entry.at.at)) }
 {
-    if piece.bytes.len() > DIGITS {
-        return Err(piece.at.fault(Wrong::TooLarge));
+    match value(piece.bytes) {
+        Some(number) if number <= carrier.top() => Ok(number),
+        _ => Err(piece.at.fault(Wrong::TooLarge)),
     }
-    let number = value(piece.bytes);
-    if number > carrier.top() {
-        return Err(piece.at.fault(Wrong::TooLarge));
-    }
-    Ok(number)
 }
 
 impl<'a> Cursor<'a> {
@@ -75,11 +54,11 @@ impl<'a> Cursor<'a> {
 
     /// The next word, which the cursor passes.
     pub fn word(&mut self) -> Result<Word<'a>, Fault>
-        ensures same { text self.new ≡ text self.old }
-        ensures read { elim result [ Ok w ↦ Passed self.old self.new.at w | Err f ↦ word (text self.old) self.old.at ≡ stop f ] }
+        ensures reads { ReadsAs word_bytes word self.old self.new result }
+        ensures passed { IfOk result (λ w. Passed self.old self.new.at w) }
     {
         let at = *self;
-        if at.at >= at.script.len() {
+        if at.at_end() {
             return Err(at.ended());
         }
         let bytes = at.bytes();
@@ -97,24 +76,18 @@ impl<'a> Cursor<'a> {
 
     /// The next word, which has to be this keyword.
     pub fn keyword(&mut self, due: &[u8]) -> Result<(), Fault>
-        requires { is_number due.now ≡ false }
-        ensures same { text self.new ≡ text self.old }
-        ensures read { Told (keyword due.now (text self.old) self.old.at) self.new.at result }
+        ensures { Reads (keyword due.now) self.old self.new result }
     {
         let start = *self;
-        let Word::Keyword(piece) = self.word()? else {
+        let Some(_) = self.word()?.spelled(due) else {
             return Err(start.fault(Wrong::NotDue));
         };
-        if !same(piece.bytes, due) {
-            return Err(piece.at.fault(Wrong::NotDue));
-        }
         Ok(())
     }
 
     /// The next word, which has to be a number of this carrier.
     pub fn number(&mut self, carrier: Carrier) -> Result<u64, Fault>
-        ensures same { text self.new ≡ text self.old }
-        ensures read { Told (number carrier (text self.old) self.old.at) self.new.at result }
+        ensures { Reads (number carrier) self.old self.new result }
     {
         let start = *self;
         let Word::Number(piece) = self.word()? else {
@@ -125,13 +98,12 @@ impl<'a> Cursor<'a> {
 
     /// The next byte, which has to be this separator.
     pub fn separator(&mut self, due: u8) -> Result<(), Fault>
-        ensures same { text self.new ≡ text self.old }
-        ensures read { Told (separator due (text self.old) self.old.at) self.new.at result }
+        ensures { Reads (separator due) self.old self.new result }
     {
-        if self.at >= self.script.len() {
+        let Some(b) = self.script.get(self.at) else {
             return Err(self.ended());
-        }
-        if self.script[self.at] != due {
+        };
+        if *b != due {
             return Err(self.fault(Wrong::NotDue));
         }
         self.at += 1;

@@ -1,21 +1,25 @@
-use Rattle.std.proofs.Common.{ap, ◌∙◌, arith, take_all}
-use Rattle.words.specs.Numbers.{value_of}
-use Rattle.words.proofs.Digits.{digit_there, value_more, below_more, below_top}
+use Rattle.std.proofs.Common.{get_or, arith}
+use Rattle.std.proofs.Math.Bool.{and-false}
+use Rattle.words.proofs.Digits.{no_number, digit_got, number_more, value_more, below_more, below_top}
 use Rattle.words.proofs.hex.value.Goals as goal
 
-pub digit-requires : goal.digit-requires
-digit-requires c = digit_there c.args.word.now c.requires.digits c.loop-b.b-index c.loop-b-test.true
+pub returns-in_err-digit : goal.returns-in_err-digit
+returns-in_err-digit c = simp (no_number c.args.word.now c.loop-b.b-index c.loop-b-test.true c.in_err-digit.ensures, and-false) c.from_residual.ensures
+
+pub overflow_mul-v : goal.overflow_mul-v
+overflow_mul-v c = omega (arith, below_top c.loop-b.v c.loop-b.b-index c.loop-b.invariant.small (omega arith))
+
+pub overflow_add-v : goal.overflow_add-v
+overflow_add-v c =
+    let d = digit_got (get_or c.args.word.now c.loop-b.b-index 0) c.in_ok-digit.field-0 (c.in_ok-digit.ensures) in
+    omega (arith, below_top c.loop-b.v c.loop-b.b-index c.loop-b.invariant.small (omega arith), c.from.ensures, d.2)
 
 pub loop-b-preserved : goal.loop-b-preserved
 loop-b-preserved c =
+    let d = digit_got (get_or c.args.word.now c.loop-b.b-index 0) c.in_ok-digit.field-0 (c.in_ok-digit.ensures) in
     let step = value_more c.args.word.now c.loop-b.b-index c.loop-b-test.true in
-    (omega (arith, step, c.digit.ensures.counts, c.loop-b.invariant.0), below_more c.loop-b.v c.from.result c.loop-b.b-index c.loop-b.invariant.1 (omega (arith, c.digit.ensures.small)))
-
-pub overflow_mul-v : goal.overflow_mul-v
-overflow_mul-v c = omega (arith, below_top c.loop-b.v c.loop-b.b-index c.loop-b.invariant.1 (omega arith))
-
-pub overflow_add-v : goal.overflow_add-v
-overflow_add-v c = omega (arith, below_top c.loop-b.v c.loop-b.b-index c.loop-b.invariant.1 (omega arith), c.digit.ensures.small)
-
-pub returns : goal.returns
-returns c = c.loop-b.invariant.0 ∙ ap value_of (take_all _ _ c.loop-b-test.false)
+    record {
+      digits = number_more c.args.word.now c.loop-b.b-index c.loop-b-test.true c.loop-b.invariant.digits d.0;
+      value = omega (arith, step, c.from.ensures, d.1, c.loop-b.invariant.value);
+      small = below_more c.loop-b.v c.from.result c.loop-b.b-index c.loop-b.invariant.small (omega (arith, c.from.ensures, d.2));
+    }

@@ -5,7 +5,8 @@ use Rattle.words.proofs.Steps.{prefixed}
 use Rattle.words.proofs.cursor.Cursor.numbers.Given as goal
 
 abbrev pub invariant-loop-i : goal.invariant-loop-i
-invariant-loop-i g l =
-    (text l.self ≡ text l.initial.self) ×
-    (length l.values ≡ g.row.N) ×
-    (numbers l.carriers (text l.initial.self) l.initial.self.at ≡ prefixed (take l.i l.values) (numbers (drop l.i l.carriers) (text l.initial.self) l.self.at))
+invariant-loop-i g l = record {
+  same : text l.self ≡ text l.initial.self;
+  size : length l.values ≡ length l.carriers;
+  read : numbers l.carriers (text l.initial.self) l.initial.self.at ≡ prefixed (take l.i l.values) (numbers (drop l.i l.carriers) (text l.initial.self) l.self.at);
+}
