@@ -114,7 +114,7 @@ impl PlayerFault {
         ensures { result ≡ fault_number self }
     {
         match self {
-            PlayerFault::Script(fault) => fault.wrong.number(),
+            PlayerFault::Script(fault) => u8::from(fault.wrong),
             PlayerFault::Bridge(refused, _, _) => refused.number(),
         }
     }

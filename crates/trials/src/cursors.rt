@@ -18,7 +18,7 @@ fn refused<T: Drop>(
         Ok(_) => Err(Fail::new("not refused")),
         Err(fault) => {
             assert_eq!(rt;
-                (fault.wrong.number(), fault.line, fault.place),
+                (u8::from(fault.wrong), fault.line, fault.place),
                 (number, line, place)
             );
             Ok(())
@@ -103,5 +103,5 @@ fn lines(rt: HostRuntime) -> Result<(), Fail> {
 fn layers(rt: HostRuntime) {
     assert!(rt; matches!(Wrong::TooLarge.layer(), Layer::Words));
     assert!(rt; matches!(Wrong::EndsEarly.layer(), Layer::Sections));
-    assert_eq!(rt; Wrong::Trailing.number(), 24);
+    assert_eq!(rt; u8::from(Wrong::Trailing), 24);
 }

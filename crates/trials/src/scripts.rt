@@ -81,7 +81,7 @@ fn trailing(rt: HostRuntime) {
 fn layers(rt: HostRuntime) {
     assert_eq!(rt; Wrong::TooLarge.layer(), Layer::Words);
     assert_eq!(rt; Wrong::EndsEarly.layer(), Layer::Sections);
-    assert_eq!(rt; Wrong::Trailing.number(), 24);
+    assert_eq!(rt; u8::from(Wrong::Trailing), 24);
 }
 
 #[test]

@@ -1,5 +1,5 @@
 //! The next entry of a section.
-ghost use Rattle.std.specs.Prelude.{◌≡◌, ℕ, List, length, IfSome, Some, None};
+ghost use Rattle.std.specs.Prelude.{◌≡◌, ℕ, List, IfSome, Some, None};
 ghost use Rattle.words.specs.Cursors.{text};
 ghost use Rattle.words.specs.Lines.{Fit};
 ghost use Rattle.sections.specs.Sections.{Row, section_rows, section_text};
@@ -62,7 +62,6 @@ fn gate_of<'a>(values: [u64; 1], at: Cursor<'a>) -> Gate<'a>
 impl<'a> Section<'a> {
     /// The numbers of the next line.
     fn next_row<const N: usize>(&mut self, carriers: &[Carrier; N]) -> Option<[u64; N]>
-        requires { length carriers.now ≡ N }
         ensures same { section_text self.new ≡ section_text self.old }
         ensures taken { Taken (λ vs. record { place = self.old.lines.at; values = vs }) (section_rows carriers.now self.old) result (section_rows carriers.now self.new) }
         ensures fit { IfSome result (λ vs. Fit carriers.now vs) }

@@ -1,7 +1,6 @@
 //! Reading a section.
-ghost use Rattle.std.specs.Prelude.{◌≡◌, ◌+◌, ◌<◌, ◌≤◌, false, length, IfOk};
+ghost use Rattle.std.specs.Prelude.{◌≡◌, ◌+◌, ◌<◌, ◌≤◌, IfOk};
 ghost use Rattle.words.specs.Cursors.{text};
-ghost use Rattle.words.specs.Numbers.{is_number};
 ghost use Rattle.words.specs.Reading.{ToldAs};
 ghost use Rattle.sections.specs.Lines.{burst_carriers};
 ghost use Rattle.sections.specs.Values.{beat_carriers, code_carriers, part_carriers, gate_carriers};
@@ -19,8 +18,7 @@ fn pass<const N: usize>(
     carriers: &[Carrier; N],
     count: u64,
 ) -> Result<(), Fault>
-    requires size { length carriers.now ≡ N }
-    requires few { N ≤ 8 }
+    requires { N ≤ 8 }
     ensures same { text cursor.new ≡ text cursor.old }
     ensures read { ToldAs (λ _. rows_left carriers.now count (text cursor.old) cursor.old.at) (rows carriers.now count (text cursor.old) cursor.old.at) cursor.new.at result }
 {
@@ -33,7 +31,6 @@ fn pass<const N: usize>(
 impl<'a> Section<'a> {
     /// The section of bursts under this keyword, which the cursor passes.
     pub fn read_bursts(cursor: &mut Cursor<'a>, due: &[u8]) -> Result<Section<'a>, Fault>
-        requires { is_number due.now ≡ false }
         ensures same { text cursor.new ≡ text cursor.old }
         ensures read { ToldAs (section_rows burst_carriers) (section due.now burst_carriers (text cursor.old) cursor.old.at) cursor.new.at result }
         ensures inside { IfOk result (λ x. section_text x ≡ text cursor.old) }
@@ -43,7 +40,6 @@ impl<'a> Section<'a> {
 
     /// The section of data beats under this keyword, which the cursor passes.
     pub fn read_beats(cursor: &mut Cursor<'a>, due: &[u8]) -> Result<Section<'a>, Fault>
-        requires { is_number due.now ≡ false }
         ensures same { text cursor.new ≡ text cursor.old }
         ensures read { ToldAs (section_rows beat_carriers) (section due.now beat_carriers (text cursor.old) cursor.old.at) cursor.new.at result }
         ensures inside { IfOk result (λ x. section_text x ≡ text cursor.old) }
@@ -53,7 +49,6 @@ impl<'a> Section<'a> {
 
     /// The section of write responses under this keyword, which the cursor passes.
     pub fn read_codes(cursor: &mut Cursor<'a>, due: &[u8]) -> Result<Section<'a>, Fault>
-        requires { is_number due.now ≡ false }
         ensures same { text cursor.new ≡ text cursor.old }
         ensures read { ToldAs (section_rows code_carriers) (section due.now code_carriers (text cursor.old) cursor.old.at) cursor.new.at result }
         ensures inside { IfOk result (λ x. section_text x ≡ text cursor.old) }
@@ -63,7 +58,6 @@ impl<'a> Section<'a> {
 
     /// The section of read answers under this keyword, which the cursor passes.
     pub fn read_parts(cursor: &mut Cursor<'a>, due: &[u8]) -> Result<Section<'a>, Fault>
-        requires { is_number due.now ≡ false }
         ensures same { text cursor.new ≡ text cursor.old }
         ensures read { ToldAs (section_rows part_carriers) (section due.now part_carriers (text cursor.old) cursor.old.at) cursor.new.at result }
         ensures inside { IfOk result (λ x. section_text x ≡ text cursor.old) }
@@ -73,7 +67,6 @@ impl<'a> Section<'a> {
 
     /// The section of gates under this keyword, which the cursor passes.
     pub fn read_gates(cursor: &mut Cursor<'a>, due: &[u8]) -> Result<Section<'a>, Fault>
-        requires { is_number due.now ≡ false }
         ensures same { text cursor.new ≡ text cursor.old }
         ensures read { ToldAs (section_rows gate_carriers) (section due.now gate_carriers (text cursor.old) cursor.old.at) cursor.new.at result }
         ensures inside { IfOk result (λ x. section_text x ≡ text cursor.old) }
@@ -87,9 +80,7 @@ impl<'a> Section<'a> {
         due: &[u8],
         carriers: &[Carrier; N],
     ) -> Result<Section<'a>, Fault>
-        requires keyword { is_number due.now ≡ false }
-        requires size { length carriers.now ≡ N }
-        requires few { N ≤ 8 }
+        requires { N ≤ 8 }
         ensures same { text cursor.new ≡ text cursor.old }
         ensures read { ToldAs (section_rows carriers.now) (section due.now carriers.now (text cursor.old) cursor.old.at) cursor.new.at result }
         ensures inside { IfOk result (λ x. section_text x ≡ text cursor.old) }

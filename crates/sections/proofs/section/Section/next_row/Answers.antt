@@ -7,8 +7,8 @@ pub returns-in-Ok : goal.returns-in-Ok
 returns-in-Ok g c =
     let told = c.in-Ok.ensures in
     record {
-      same = told.same;
-      taken = left_first c.args.carriers.now (text c.args.self.now.lines) c.args.self.now.count c.args.self.now.lines.at c.in-Ok.values c.numbers.new.self.at (text c.numbers.new.self) c.if-self-eq0.false told.same told.read;
+      same = told.reads.same;
+      taken = left_first c.args.carriers.now (text c.args.self.now.lines) c.args.self.now.count c.args.self.now.lines.at c.in-Ok.values c.numbers.new.self.at (text c.numbers.new.self) c.if-self-eq0.false told.reads.same told.reads.read;
       fit = told.fit;
     }
 
@@ -16,7 +16,7 @@ pub returns-in-Err : goal.returns-in-Err
 returns-in-Err g c =
     let told = c.in-Err.ensures in
     record {
-      same = told.same;
-      taken = (left_none c.args.carriers.now (text c.args.self.now.lines) c.args.self.now.count c.args.self.now.lines.at _ told.read, refl);
+      same = told.reads.same;
+      taken = (left_none c.args.carriers.now (text c.args.self.now.lines) c.args.self.now.count c.args.self.now.lines.at _ told.reads.read, refl);
       fit = tt;
     }
