@@ -1,16 +1,15 @@
 -- One number more of a line.
-use Rattle.std.proofs.Common.{◌≡◌, ℕ, zero, suc, ◌+◌, ◌^◌, ◌<◌, ◌≤◌, cond, ◌&&◌, ltb, leb, List, [], ◌∷◌, ◌++◌, length, get_or, take, drop, set, sym, refl, ap, ◌∙◌, arith}
-use Rattle.std.proofs.lemmas.List.{append_assoc, append-nil, drop_more, drop_all, take_all, take_more_set}
+use Rattle.std.proofs.Common.{◌≡◌, ℕ, zero, suc, ◌^◌, ◌<◌, ◌≤◌, cond, ◌&&◌, ltb, leb, List, [], ◌∷◌, ◌++◌, length, get_or, take, drop, sym, refl, ap, ◌∙◌, arith}
+use Rattle.std.proofs.lemmas.List.{append-nil, drop_all, take_all}
 use Rattle.std.proofs.lemmas.Bool.{ltb-true, ltb-false, and_parts, cond_both}
 use Rattle.words.proofs.Inverse.{then_got, passed}
 use Rattle.words.specs.Carriers.{bits}
 use Rattle.words.specs.Lines.{numbers, separator_before, Fit}
 use Rattle.words.specs.Reading.{Read, then}
-use Rattle.words.specs.Reading.Read.{got, stop}
+use Rattle.words.specs.Reading.Read.{got}
 use Rattle.words.specs.Numbers.{is_number, value_of}
 use Rattle.words.specs.Words.{word, number, separator}
 use Rattle.words.specs.declared.carrier.Carrier.{Carrier}
-use Rattle.words.specs.declared.fault.Fault.{Fault}
 
 -- the script stays the same from step to step
 pub through : (a b c d : List ℕ) → a ≡ b → b ≡ c → c ≡ d → a ≡ d
@@ -19,14 +18,6 @@ through a b c d p q r = p ∙ q ∙ r
 -- values that were read before
 abbrev pub prefixed : List ℕ → Read (List ℕ) → Read (List ℕ)
 prefixed vs reading = then reading (λ us end. got (vs ++ us) end)
-
-pub prefixed_none : (reading : Read (List ℕ)) → reading ≡ prefixed [] reading
-prefixed_none (got us end) = refl
-prefixed_none (stop f) = refl
-
-regroup : (vs : List ℕ) (v : ℕ) (reading : Read (List ℕ)) → prefixed vs (then reading (λ us end. got (v ∷ us) end)) ≡ prefixed (vs ++ (v ∷ [])) reading
-regroup vs v (got us end) = ap (λ w. got w end) (sym (append_assoc vs (v ∷ []) us))
-regroup vs v (stop f) = refl
 
 -- the separator after the number at i
 sep_inner : (cs : List Carrier) (k : ℕ) → k < length cs → 32 ≡ separator_before (drop k cs)
@@ -39,29 +30,6 @@ sep_last cs k h = sym (ap separator_before (drop_all k cs h))
 
 pub sep_at : (cs : List Carrier) (k n : ℕ) → n ≡ length cs → cond (ltb k n) 32 10 ≡ separator_before (drop k cs)
 sep_at cs k n size = cond_both (ltb k n) 32 10 (λ x. x ≡ separator_before (drop k cs)) (λ e. sep_inner cs k (omega (arith, ltb-true k n e))) (λ e. sep_last cs k (omega (arith, ltb-false k n e)))
-
--- a line in the middle: the number at i was read, and the separator after it
-module _ (s s₁ : List ℕ) (same : s₁ ≡ s) (cs : List Carrier) (d : Carrier) (vs : List ℕ) (i at : ℕ) (less : i < length cs) where
-  here : numbers (drop i cs) s at ≡ numbers (get_or cs i d ∷ drop (i + 1) cs) s at
-  here = ap (λ l. numbers l s at) (drop_more cs i d less)
-
-  pub line_more : (s₂ : List ℕ) → s₂ ≡ s₁ → (v sep after next : ℕ) → i < length vs → sep ≡ separator_before (drop (i + 1) cs) → number (get_or cs i d) s₁ at ≡ got v after → separator sep s₂ after ≡ got tt next →
-      prefixed (take i vs) (numbers (drop i cs) s at) ≡ prefixed (take (i + 1) (set vs i v)) (numbers (drop (i + 1) cs) s next)
-  line_more s₂ also v sep after next room e read part =
-      let read' = rw same at read in
-      let part' = rw (also, same) at part in
-      ap (prefixed (take i vs)) here
-      ∙ simp (read', ← e, part') (regroup (take i vs) v (numbers (drop (i + 1) cs) s next) ∙ ap (λ l. prefixed l (numbers (drop (i + 1) cs) s next)) (sym (take_more_set vs i v room)))
-
-  pub line_refused : (f : Fault) → number (get_or cs i d) s₁ at ≡ stop f → prefixed (take i vs) (numbers (drop i cs) s at) ≡ stop f
-  line_refused f read = let read' = rw same at read in ap (prefixed (take i vs)) here ∙ simp read'
-
-  pub line_parted : (s₂ : List ℕ) → s₂ ≡ s₁ → (v sep after : ℕ) (f : Fault) → sep ≡ separator_before (drop (i + 1) cs) → number (get_or cs i d) s₁ at ≡ got v after → separator sep s₂ after ≡ stop f →
-      prefixed (take i vs) (numbers (drop i cs) s at) ≡ stop f
-  line_parted s₂ also v sep after f e read part =
-      let read' = rw same at read in
-      let part' = rw (also, same) at part in
-      ap (prefixed (take i vs)) here ∙ simp (read', ← e, part')
 
 -- at the end of the line
 pub line_all : (s : List ℕ) (cs : List Carrier) (vs : List ℕ) (i at : ℕ) → length cs ≤ i → length vs ≤ i → prefixed (take i vs) (numbers (drop i cs) s at) ≡ got vs at
