@@ -2,8 +2,10 @@
 ghost use Rattle.std.specs.Prelude.{◌≡◌, ℕ, ◌+◌, ◌^◌, ◌<◌, ◌≤◌, slice_index_or};
 ghost use Rattle.axi.specs.Bursts.{lengths, bytes, beats, kind_of, burst_fits};
 
+use std::fmt;
+
 /// How the addresses of a burst's beats follow one another.
-#[derive(Clone, Copy)]
+#[derive(Clone, Copy, Debug, PartialEq, Eq)]
 pub enum Kind {
     /// Every beat at the same address.
     Fixed,
@@ -15,6 +17,19 @@ pub enum Kind {
     Reserved,
 }
 
+/// The kind of a burst as AXI names it.
+impl fmt::Display for Kind {
+    fn fmt<W: fmt::Write>(&self, f: &mut fmt::Formatter<W>) -> fmt::Result {
+        f.write_str(match self {
+            Kind::Fixed => "FIXED",
+            Kind::Incr => "INCR",
+            Kind::Wrap => "WRAP",
+            Kind::Reserved => "reserved",
+        })
+    }
+}
+
+/// The kind that BURST stands for.
 impl From<u8> for Kind {
     ghost from_gives = { λ burst kind. kind ≡ kind_of burst };
 
@@ -29,7 +44,7 @@ impl From<u8> for Kind {
 }
 
 /// A burst as AW or AR carries it.
-#[derive(Clone, Copy)]
+#[derive(Clone, Copy, Debug, Default, PartialEq, Eq)]
 pub struct Burst {
     pub id: u16,
     pub addr: u32,

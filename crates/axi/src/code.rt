@@ -3,7 +3,7 @@ ghost use Rattle.std.specs.Prelude.{◌≡◌, ℕ};
 ghost use Rattle.axi.specs.Codes.{code_number, read_code};
 
 /// A response as the bridge gives it. It never gives EXOKAY.
-#[derive(Clone, Copy)]
+#[derive(Clone, Copy, Debug, PartialEq, Eq)]
 pub enum Code {
     Okay = 0,
     SlvErr = 2,

@@ -2,8 +2,11 @@
 ghost use Rattle.std.specs.Prelude.{◌≡◌, ℕ, Some, None, Ok, Err};
 ghost use Rattle.axi.specs.Plans.{upper_bytes, lower_bytes, level_number, plan_refusal_number, refused_plan, ReadsWidths, ReadsLevel};
 
+use std::error::Error;
+use std::fmt;
+
 /// The widths of the upper and the lower bus in bytes. The lower bus is never the wider one.
-#[derive(Clone, Copy)]
+#[derive(Clone, Copy, Debug, PartialEq, Eq)]
 pub enum Widths {
     FourOverFour,
     EightOverFour,
@@ -28,7 +31,7 @@ impl TryFrom<(u8, u8)> for Widths {
 }
 
 /// What the bridge converts, and from what it protects the block.
-#[derive(Clone, Copy)]
+#[derive(Clone, Copy, Debug, PartialEq, Eq)]
 pub enum Level {
     /// Level 0: every legal burst is converted.
     FullConversion,
@@ -36,6 +39,17 @@ pub enum Level {
     SimpleConversion,
     /// Level 2: only a burst that is an AXI4-Lite transfer already is passed on.
     FullProtection,
+}
+
+/// The level in words.
+impl fmt::Display for Level {
+    fn fmt<W: fmt::Write>(&self, f: &mut fmt::Formatter<W>) -> fmt::Result {
+        f.write_str(match self {
+            Level::FullConversion => "full conversion",
+            Level::SimpleConversion => "simple conversion",
+            Level::FullProtection => "full protection",
+        })
+    }
 }
 
 /// The number that stands for the level in a plan line.
@@ -64,7 +78,7 @@ impl TryFrom<u8> for Level {
 }
 
 /// Why there is no plan with the values asked for.
-#[derive(Clone, Copy)]
+#[derive(Clone, Copy, Debug, PartialEq, Eq)]
 pub enum PlanRefusal {
     /// A width is neither 4 nor 8.
     Width = 1,
@@ -73,6 +87,21 @@ pub enum PlanRefusal {
     /// The level is above 2.
     Level = 3,
 }
+
+/// The refusal in words.
+impl fmt::Display for PlanRefusal {
+    fn fmt<W: fmt::Write>(&self, f: &mut fmt::Formatter<W>) -> fmt::Result {
+        f.write_str(match self {
+            PlanRefusal::Width =>
+                "a bus is neither 4 nor 8 bytes wide; expected 4 or 8 for U and L",
+            PlanRefusal::LowerAboveUpper =>
+                "the lower bus is wider than the upper one; expected L at most U",
+            PlanRefusal::Level => "there is no such level; expected 0, 1 or 2",
+        })
+    }
+}
+
+impl Error for PlanRefusal {}
 
 /// The number of the refusal.
 impl From<PlanRefusal> for u8 {
@@ -84,7 +113,7 @@ impl From<PlanRefusal> for u8 {
 }
 
 /// The settings of a bridge. Every value is legal.
-#[derive(Clone, Copy)]
+#[derive(Clone, Copy, Debug, PartialEq, Eq)]
 pub struct Plan {
     pub widths: Widths,
     pub level: Level,

@@ -6,9 +6,10 @@ ghost use Rattle.axi.specs.Verdicts.{verdict_of, verdict_number, is_forwarded, w
 
 use crate::burst::{Burst, Kind};
 use crate::plan::{Level, Plan};
+use std::fmt;
 
 /// What becomes of a burst: it is forwarded, or refused for the first reason that applies.
-#[derive(Clone, Copy)]
+#[derive(Clone, Copy, Debug, PartialEq, Eq)]
 pub enum Verdict {
     /// The burst goes down in parts.
     Forwarded,
@@ -34,6 +35,25 @@ pub enum Verdict {
     LockedOrCached,
 }
 
+/// The verdict in words.
+impl fmt::Display for Verdict {
+    fn fmt<W: fmt::Write>(&self, f: &mut fmt::Formatter<W>) -> fmt::Result {
+        f.write_str(match self {
+            Verdict::Forwarded => "forwarded",
+            Verdict::ReservedKind => "reserved kind of burst",
+            Verdict::WiderThanUpper => "beat wider than the upper bus",
+            Verdict::FixedTooLong => "FIXED of more than 16 beats",
+            Verdict::WrapCount => "WRAP of other than 2, 4, 8 or 16 beats",
+            Verdict::WrapUnaligned => "WRAP from an unaligned address",
+            Verdict::CrossesBoundary => "INCR across a multiple of 4096",
+            Verdict::SeveralBeats => "more than one beat",
+            Verdict::WiderThanLower => "beat wider than the lower bus",
+            Verdict::NarrowerThanLower => "beat narrower than the lower bus",
+            Verdict::LockedOrCached => "LOCK or CACHE set",
+        })
+    }
+}
+
 /// The number of the verdict.
 impl From<Verdict> for u8 {
     ghost from_gives = { λ verdict n. n ≡ verdict_number verdict };
@@ -48,7 +68,7 @@ impl Verdict {
     pub fn is_forwarded(self) -> bool
         ensures { result ≡ is_forwarded self }
     {
-        matches!(self, Verdict::Forwarded)
+        self == Verdict::Forwarded
     }
 }
 
@@ -56,7 +76,7 @@ impl Verdict {
 fn wrap_count(n: u32) -> bool
     ensures { result ≡ wrap_count n }
 {
-    n == 2 || n == 4 || n == 8 || n == 16
+    matches!(n, 2 | 4 | 8 | 16)
 }
 
 /// Whether an incrementing burst reaches past the next multiple of 4,096.

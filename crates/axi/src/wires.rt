@@ -7,35 +7,35 @@ use crate::code::Code;
 use crate::plan::{Plan, Widths};
 
 /// The payload of W and of LW: data and strobes.
-#[derive(Clone, Copy)]
+#[derive(Clone, Copy, Debug, Default, PartialEq, Eq)]
 pub struct Beat {
     pub wdata: u64,
     pub wstrb: u8,
 }
 
 /// The payload of LAW and of LAR: address and protection.
-#[derive(Clone, Copy)]
+#[derive(Clone, Copy, Debug, Default, PartialEq, Eq)]
 pub struct Place {
     pub addr: u32,
     pub prot: u8,
 }
 
 /// The payload of LR: data and response.
-#[derive(Clone, Copy)]
+#[derive(Clone, Copy, Debug, Default, PartialEq, Eq)]
 pub struct LowerRead {
     pub lrdata: u64,
     pub lrresp: u8,
 }
 
 /// The payload of B: ID and response.
-#[derive(Clone, Copy)]
+#[derive(Clone, Copy, Debug, PartialEq, Eq)]
 pub struct WriteAnswer {
     pub id: u16,
     pub code: Code,
 }
 
 /// The payload of R: ID, data, response and LAST.
-#[derive(Clone, Copy)]
+#[derive(Clone, Copy, Debug, PartialEq, Eq)]
 pub struct ReadBeat {
     pub id: u16,
     pub rdata: u64,
@@ -44,7 +44,7 @@ pub struct ReadBeat {
 }
 
 /// What the master and the block drive on one edge.
-#[derive(Clone, Copy)]
+#[derive(Clone, Copy, Debug, PartialEq, Eq)]
 pub struct Inputs {
     pub aresetn: bool,
     pub awvalid: bool,
@@ -65,7 +65,7 @@ pub struct Inputs {
 }
 
 /// What the bridge drives.
-#[derive(Clone, Copy)]
+#[derive(Clone, Copy, Debug, PartialEq, Eq)]
 pub struct Outputs {
     pub awready: bool,
     pub wready: bool,
@@ -85,7 +85,7 @@ pub struct Outputs {
 }
 
 /// Why an edge is refused: a field is too large under its VALID.
-#[derive(Clone, Copy)]
+#[derive(Clone, Copy, Debug, PartialEq, Eq)]
 pub enum Refusal {
     /// A field of the write burst.
     WriteBurst = 4,
