@@ -1,5 +1,5 @@
 -- Faults: their numbers, their layers, and where they are.
-use Rattle.std.specs.Prelude.{ℕ, ◌+◌, List, take, count_by, nat_eq}
+use Rattle.std.specs.Prelude.{ℕ, ◌+◌, List, codes, take, count_by, nat_eq}
 use Rattle.words.specs.declared.fault.Fault.{Fault}
 use Rattle.words.specs.declared.fault.Layer.{Layer}
 use Rattle.words.specs.declared.fault.Layer.TheVariants.{Words, Sections}
@@ -12,6 +12,14 @@ wrong_number NotDue = 21
 wrong_number TooLarge = 22
 wrong_number EndsEarly = 23
 wrong_number Trailing = 24
+
+-- what the user is told
+abbrev pub wrong_text : Wrong → List ℕ
+wrong_text TooLong = codes "the input is above 16,384 bytes"
+wrong_text NotDue = codes "not the due word or separator"
+wrong_text TooLarge = codes "the number is too large"
+wrong_text EndsEarly = codes "the input ends too early"
+wrong_text Trailing = codes "bytes stand after the last section"
 
 abbrev pub layer_of : Wrong → Layer
 layer_of TooLong = Words

@@ -1,6 +1,8 @@
 //! Why a script is refused, at which line and place.
-ghost use Rattle.words.specs.Faults.{wrong_number, layer_of};
-ghost use Rattle.std.specs.Prelude.{◌≡◌};
+ghost use Rattle.words.specs.Faults.{wrong_number, wrong_text, layer_of};
+ghost use Rattle.std.specs.Prelude.{◌≡◌, Some};
+
+use std::fmt;
 
 /// The part of the reading that refuses.
 #[derive(Clone, Copy, Debug, PartialEq, Eq)]
@@ -30,6 +32,20 @@ impl From<Wrong> for u8 {
     /// The number of the fault.
     fn from(wrong: Wrong) -> u8 {
         wrong as u8
+    }
+}
+
+impl fmt::Display for Wrong {
+    ghost output = { λ w. Some (wrong_text w) };
+
+    fn fmt<W: fmt::Write>(&self, f: &mut fmt::Formatter<W>) -> fmt::Result {
+        match self {
+            Wrong::TooLong => write!(f, "the input is above 16,384 bytes"),
+            Wrong::NotDue => write!(f, "not the due word or separator"),
+            Wrong::TooLarge => write!(f, "the number is too large"),
+            Wrong::EndsEarly => write!(f, "the input ends too early"),
+            Wrong::Trailing => write!(f, "bytes stand after the last section"),
+        }
     }
 }
 

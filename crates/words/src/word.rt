@@ -34,10 +34,6 @@ impl<'a> Word<'a> {
         ensures { result ≡ (if bytes_eq (word_bytes self.entry) due.now then Some (piece_of self.entry) else None) }
     {
         let piece = self.piece();
-        if piece.bytes == due {
-            Some(piece)
-        } else {
-            None
-        }
+        (piece.bytes == due).then_some(piece)
     }
 }
