@@ -4,6 +4,7 @@ use std::test::Fail;
 use words::carrier::Carrier;
 use words::cursor::Cursor;
 use words::fault::{Fault, Layer, Wrong};
+use words::hex::digit;
 use words::word::Word;
 
 /// Passes where a call refuses with this fault.
@@ -41,9 +42,17 @@ fn words_in_a_row(rt: HostRuntime) -> Result<(), Fail> {
 #[test]
 fn keywords(rt: HostRuntime) -> Result<(), Fail> {
     assert!(rt; Cursor::new(b"gates 2").keyword(b"gates").is_ok());
+    assert!(rt; Cursor::new(b"12").keyword(b"12").is_ok());
+    refused(&rt, Cursor::new(b"12").keyword(b"gates"), 21, 1, 0)?;
     refused(&rt, Cursor::new(b"gate 2").keyword(b"gates"), 21, 1, 0)?;
     refused(&rt, Cursor::new(b"\ngates").keyword(b"gates"), 21, 1, 0)?;
     refused(&rt, Cursor::new(b"").keyword(b"gates"), 23, 1, 0)
+}
+
+#[test]
+fn digits(rt: HostRuntime) {
+    assert_eq!(rt; (digit(b'9'), digit(b'f')), (Some(9), Some(15)));
+    assert_eq!(rt; (digit(b'F'), digit(b'g')), (None, None));
 }
 
 #[test]
