@@ -11,7 +11,8 @@ use crate::item::Item;
 use crate::refusal::{ListFault, Refusal};
 use axi::burst::Burst;
 use axi::plan::Plan;
-use sections::line::{Settings, read_burst};
+use sections::entry::Entry;
+use sections::line::Settings;
 use std::alloc::Global;
 use words::cursor::Cursor;
 use words::word::Word;
@@ -27,7 +28,7 @@ fn at_keyword(mut cursor: Cursor) -> bool
 fn plan_of(settings: Settings, line: usize) -> Result<Plan, Refusal>
     ensures { PlanMade settings line result }
 {
-    match Plan::new(settings.upper, settings.lower, settings.level) {
+    match Plan::try_from(settings) {
         Ok(plan) => Ok(plan),
         Err(refusal) => Err(Refusal::Plan(refusal, line)),
     }
@@ -59,7 +60,7 @@ fn burst_line(cursor: &mut Cursor) -> Result<Burst, Refusal>
     ensures told { BurstTold (burst_line (text cursor.old) cursor.old.at) (line_at (text cursor.old) cursor.old.at) cursor.new.at result }
 {
     let line = cursor.line();
-    fitting(read_burst(cursor)?, line)
+    fitting(Burst::read(cursor)?, line)
 }
 
 /// What a line says under the plan in force: a plan if it begins with a keyword, otherwise a burst.

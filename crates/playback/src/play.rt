@@ -1,14 +1,13 @@
 //! Playing a script.
-ghost use Rattle.std.specs.Prelude.{◌≡◌, ◌<◌, length, IfOk};
+ghost use Rattle.std.specs.Prelude.{◌≡◌, IfOk};
 ghost use Rattle.playback.specs.Laws.{LinesAreLedgers, EndsIn};
 ghost use Rattle.playback.specs.Runs.{Ran};
 ghost use Rattle.playback.specs.Transcripts.{Prepared, performed, played_through, transcript};
 ghost use Rattle.script.specs.Scripts.{contents};
 ghost use Rattle.sections.specs.Sections.{section_text};
-ghost use Rattle.sections.specs.Values.{gates};
 
 use crate::entries::Entries;
-use crate::player::run;
+use crate::player::Bench;
 use axi::plan::Plan;
 use bridge::bridge::{Bridge, Tables};
 use engines::taken::{NO_ANSWER, NO_BEAT, NO_BURST, NO_READ_BEAT};
@@ -31,14 +30,13 @@ fn prepare<'a>(bytes: &'a [u8]) -> Result<(Plan, Script<'a>), PlayerFault>
     ensures { Prepared bytes.now result }
 {
     let script = Script::read(bytes)?;
-    let plan = Plan::new(script.upper, script.lower, script.level)?;
+    let plan = Plan::try_from(script.settings)?;
     Ok((plan, script))
 }
 
 /// Plays a script through a bridge with tables of four slots.
-fn run_script(plan: Plan, script: &Script, out: &mut Vec<u8>) -> Result<Ending, AllocError>
-    requires { length (gates script.now.gates) < 65536 }
-    ensures { IfOk result (λ end. Ran (played_through (section_text script.now.gates) (contents script.now) plan) out.old.items out.new.items end) }
+fn run_script(plan: Plan, script: Script, out: &mut Vec<u8>) -> Result<Ending, AllocError>
+    ensures { IfOk result (λ end. Ran (played_through (section_text script.entry.gates) (contents script.entry) plan) out.old.items out.new.items end) }
 {
     let mut write_bursts = [NO_BURST; 4];
     let mut data_beats = [NO_BEAT; 4];
@@ -52,12 +50,14 @@ fn run_script(plan: Plan, script: &Script, out: &mut Vec<u8>) -> Result<Ending, 
         read_bursts: &mut read_bursts,
         read_beats: &mut read_beats,
     };
-    let mut bridge = Bridge::new(plan, tables);
-    let mut entries = Entries {
-        master: script.master,
-        block: script.block,
+    let mut bench = Bench {
+        bridge: Bridge::new(plan, tables),
+        entries: Entries {
+            master: script.master,
+            block: script.block,
+        },
     };
-    run(&mut bridge, &mut entries, script.gates, out)
+    bench.run(script.gates, out)
 }
 
 /// The lines of every crossing, and how the playing ends.
@@ -65,7 +65,7 @@ fn perform(bytes: &[u8], out: &mut Vec<u8>) -> Result<Ending, AllocError>
     ensures { IfOk result (λ end. Ran (performed bytes.now) out.old.items out.new.items end) }
 {
     match prepare(bytes) {
-        Ok((plan, script)) => run_script(plan, &script, out),
+        Ok((plan, script)) => run_script(plan, script, out),
         Err(fault) => Ok(Ending::Fault(fault)),
     }
 }

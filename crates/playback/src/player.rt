@@ -5,32 +5,23 @@ ghost use Rattle.playback.specs.Runs.{Stepped, Ran, playing, refused_at};
 ghost use Rattle.words.specs.Cursors.{text};
 ghost use Rattle.sections.specs.Sections.{section_text};
 ghost use Rattle.sections.specs.Values.{gates};
-ghost use Rattle.std.specs.Prelude.{◌≡◌, ◌<◌, length, IfOk};
+ghost use Rattle.std.specs.Prelude.{◌≡◌, IfOk};
 
 use crate::entries::Entries;
 use axi::wires::Refusal;
 use bridge::bridge::Bridge;
-use sections::section::Section;
+use sections::section::{Gate, Section};
 use std::alloc::AllocError;
 use transcript::crossing::{CHANNELS, Crossing, crossings, print_edge};
 use transcript::ending::Ending;
 use transcript::fault::PlayerFault;
 use words::cursor::Cursor;
 
-/// One gate is one edge: what crosses on it.
-fn step(
-    bridge: &mut Bridge,
-    entries: &mut Entries,
-    gate: u16,
-) -> Result<[Option<Crossing>; CHANNELS], Refusal>
-    ensures edge { Stepped bridge.old bridge.new (stock entries.old) (stock entries.new) gate result }
-    ensures kept { settings bridge.new ≡ settings bridge.old }
-{
-    let x = entries.wires(gate);
-    let o = bridge.wires();
-    let report = bridge.edge(&x)?;
-    entries.pass(&report.crossed);
-    Ok(crossings(&report, &x, &o))
+/// A bridge, between the entries that its master and its block have left.
+#[derive(Drop)]
+pub struct Bench<'b, 's> {
+    pub bridge: Bridge<'b>,
+    pub entries: Entries<'s>,
 }
 
 /// The fault of a refused edge, at its gate's word.
@@ -40,24 +31,34 @@ fn fault_at(refusal: Refusal, word: Cursor) -> PlayerFault
     PlayerFault::from(refusal).at(word.line(), word.place())
 }
 
-/// Every gate in order, to the end or to the first refused edge.
-pub fn run(
-    bridge: &mut Bridge,
-    entries: &mut Entries,
-    section: Section,
-    out: &mut Vec<u8>,
-) -> Result<Ending, AllocError>
-    requires { length (gates section) < 65536 }
-    ensures { IfOk result (λ end. Ran (playing bridge.old (stock entries.old) (section_text section.entry) 0 (gates section.entry)) out.old.items out.new.items end) }
-{
-    let mut left = section;
-    let mut edge = 0;
-    while let Some(gate) = left.next_gate() {
-        match step(bridge, entries, gate.bits) {
-            Ok(crossings) => print_edge(out, edge, &crossings)?,
-            Err(refusal) => return Ok(Ending::Fault(fault_at(refusal, gate.at))),
-        }
-        edge += 1;
+impl<'b, 's> Bench<'b, 's> {
+    /// One gate is one edge: what crosses on it.
+    fn step(&mut self, gate: u16) -> Result<[Option<Crossing>; CHANNELS], Refusal>
+        ensures edge { Stepped self.old.bridge self.new.bridge (stock self.old.entries) (stock self.new.entries) gate result }
+        ensures kept { settings self.new.bridge ≡ settings self.old.bridge }
+    {
+        let Bench { bridge, entries } = self;
+        let x = entries.wires(gate);
+        let o = bridge.wires();
+        let report = bridge.edge(&x)?;
+        entries.pass(&report.crossed);
+        Ok(crossings(&report, &x, &o))
     }
-    Ok(Ending::Owed(bridge.owed()))
+
+    /// Every gate in order, to the end or to the first refused edge.
+    pub fn run<'g>(
+        &mut self,
+        section: Section<'g, Gate<'g>>,
+        out: &mut Vec<u8>,
+    ) -> Result<Ending, AllocError>
+        ensures { IfOk result (λ end. Ran (playing self.old.bridge (stock self.old.entries) (section_text section.entry) 0 (gates section.entry)) out.old.items out.new.items end) }
+    {
+        for (edge, gate) in section.enumerate() {
+            match self.step(gate.bits) {
+                Ok(crossings) => print_edge(out, edge as u64, &crossings)?,
+                Err(refusal) => return Ok(Ending::Fault(fault_at(refusal, gate.at))),
+            }
+        }
+        Ok(Ending::Owed(self.bridge.owed()))
+    }
 }

@@ -1,11 +1,10 @@
 -- A whole script.
-use Rattle.std.specs.Prelude.{◌≡◌, ℕ, cond, List, map, length, Ok, Err, codes, Result, nat_le, slice_index}
+use Rattle.std.specs.Prelude.{◌≡◌, ℕ, cond, List, map, length, Ok, Err, codes, Result, nat_le}
 use Rattle.axi.specs.declared.burst.Burst.{Burst}
 use Rattle.axi.specs.declared.wires.Beat.{Beat}
 use Rattle.axi.specs.declared.wires.LowerRead.{LowerRead}
 use Rattle.words.specs.Faults.{fault_at}
-use Rattle.sections.specs.Lines.{bridge_carriers, burst_carriers}
-use Rattle.words.specs.Lines.{headed}
+use Rattle.sections.specs.Lines.{bridge_line, burst_carriers}
 use Rattle.words.specs.Reading.{Read, then}
 use Rattle.words.specs.Reading.Read.{got, stop}
 use Rattle.sections.specs.Sections.{section}
@@ -57,11 +56,11 @@ edges s at =
 
 abbrev pub whole : List ℕ → Read Contents
 whole s =
-    then (headed (codes "bridge") bridge_carriers s 0) λ bridge at₁.
+    then (bridge_line s 0) λ settings at₁.
     then (master s at₁) λ master at₂.
     then (block s at₂) λ block at₃.
     then (edges s at₃) λ gates after.
-    got (record { upper = slice_index bridge 0; lower = slice_index bridge 1; level = slice_index bridge 2; master = master; block = block; gates = gates }) after
+    got (record { upper = settings.upper; lower = settings.lower; level = settings.level; master = master; block = block; gates = gates }) after
 
 abbrev pub outcome : {X : Type 0} → Read X → Result X Fault
 outcome (got x after) = Ok x
@@ -79,7 +78,7 @@ abbrev pub block_left : Block → BlockEntries
 block_left b = record { wcodes = write_codes b.wcodes; rparts = read_parts b.rparts }
 
 abbrev pub contents : Script → Contents
-contents x = record { upper = x.upper; lower = x.lower; level = x.level; master = master_left x.master; block = block_left x.block; gates = gates x.gates }
+contents x = record { upper = x.settings.upper; lower = x.settings.lower; level = x.settings.level; master = master_left x.master; block = block_left x.block; gates = gates x.gates }
 
 -- what a reading of the whole script returns
 abbrev pub Reads : Result Contents Fault → Result Script Fault → Type 0

@@ -1,12 +1,17 @@
 -- One line more of a section.
-use Rattle.std.proofs.Common.{◌≡◌, ℕ, zero, suc, ◌+◌, ◌-◌, ◌<◌, List, [], ◌∷◌, ◌++◌, refl, ap, ◌∙◌, add-one, arith}
-use Rattle.words.proofs.Inverse.{never_got}
+use Rattle.std.proofs.Common.{◌≡◌, ℕ, zero, suc, ◌+◌, ◌-◌, ◌<◌, List, [], ◌∷◌, ◌++◌, map, sym, refl, ap, ◌∙◌, add-one, arith}
+use Rattle.words.proofs.Inverse.{never_got, then_got}
 use Rattle.words.specs.Lines.{numbers}
 use Rattle.words.specs.Reading.{Read, then}
 use Rattle.words.specs.Reading.Read.{got, stop}
-use Rattle.sections.specs.Sections.{Row, row, rows, rows_left, listed}
+use Rattle.sections.specs.Sections.{Row, entry, row, rows, rows_left, listed}
 use Rattle.words.specs.declared.carrier.Carrier.{Carrier}
 use Rattle.words.specs.declared.fault.Fault.{Fault}
+
+-- a first reading that gives a value only where the next one does stopped the whole
+then_stop : {X Y : Type 0} (reading : Read X) (next : X → ℕ → Read Y) (f : Fault) → ((x : X) (at : ℕ) → next x at ≡ stop f → ⊥) → then reading next ≡ stop f → reading ≡ stop f
+then_stop (got x at) next f goes e = absurd (goes x at e)
+then_stop (stop g) next f goes e = let same : g ≡ f = cc in ap stop same
 
 with_row : Row → Read (List Row) → Read (List Row)
 with_row y reading = then reading (λ ys end. got (y ∷ ys) end)
@@ -76,18 +81,27 @@ module _ (cs : List Carrier) (s : List ℕ) where
       let all = left_read (suc n) at (rows_left cs n s at ++ (x ∷ [])) end more in
       rw (add-one, all) more
 
-  -- a line, by its numbers
-  pub row_got : (s₁ : List ℕ) → s₁ ≡ s → (at : ℕ) (vs : List ℕ) (end : ℕ) → numbers cs s₁ at ≡ got vs end → row cs s at ≡ got (record { place = at; values = vs }) end
-  row_got s₁ same at vs end e = let e' = rw same at e in rw e'
+  -- a line, by its entry
+  pub row_got : {X : Type 0} (of : Row → X) (s₁ : List ℕ) → s₁ ≡ s → (at : ℕ) (x : X) (end : ℕ) → entry cs of s₁ at ≡ got x end → (r : Row) × (row cs s at ≡ got r end) × (of r ≡ x)
+  row_got of s₁ same at x end e =
+      let p = then_got (numbers cs s₁ at) _ x end e in
+      let r : Row = record { place = at; values = p.0 } in
+      let read : numbers cs s at ≡ got p.0 p.1 = rw (← same) p.2 in
+      let here : p.1 ≡ end = cc p.3 in
+      let is : of r ≡ x = cc p.3 in
+      (r, rw (read, here), is)
 
-  pub row_stop : (s₁ : List ℕ) → s₁ ≡ s → (at : ℕ) (f : Fault) → numbers cs s₁ at ≡ stop f → row cs s at ≡ stop f
-  row_stop s₁ same at f e = let e' = rw same at e in rw e'
+  pub row_stop : {X : Type 0} (of : Row → X) (s₁ : List ℕ) → s₁ ≡ s → (at : ℕ) (f : Fault) → entry cs of s₁ at ≡ stop f → row cs s at ≡ stop f
+  row_stop of s₁ same at f e = let read : numbers cs s at ≡ stop f = rw (← same) (then_stop (numbers cs s₁ at) _ f (λ vs after k. never_got f _ after (sym k)) e) in rw read
 
-  -- the first line that is left
-  pub left_first : (n at : ℕ) (vs : List ℕ) (next : ℕ) (s₁ : List ℕ) → (n ≡ 0 → ⊥) → s₁ ≡ s → numbers cs s at ≡ got vs next → rows_left cs n s at ≡ record { place = at; values = vs } ∷ rows_left cs (n - 1) s₁ next
-  left_first zero at vs next s₁ some same e = absurd (some refl)
-  left_first (suc n) at vs next s₁ some same e = let less : suc n - 1 ≡ n = omega arith in rw (e, same, less)
+  -- the first entry that is left
+  pub left_first : {X : Type 0} (of : Row → X) (n at : ℕ) (x : X) (next : ℕ) (s₁ : List ℕ) → (n ≡ 0 → ⊥) → s₁ ≡ s → entry cs of s at ≡ got x next → map of (rows_left cs n s at) ≡ x ∷ map of (rows_left cs (n - 1) s₁ next)
+  left_first of zero at x next s₁ some same e = absurd (some refl)
+  left_first of (suc n) at x next s₁ some same e =
+      let r = row_got of s refl at x next e in
+      let less : suc n - 1 ≡ n = omega arith in
+      rw (r.1, same, less, r.2)
 
-  pub left_none : (n at : ℕ) (f : Fault) → numbers cs s at ≡ stop f → rows_left cs n s at ≡ []
-  left_none zero at f e = refl
-  left_none (suc n) at f e = rw e
+  pub left_none : {X : Type 0} (of : Row → X) (n at : ℕ) (f : Fault) → entry cs of s at ≡ stop f → map of (rows_left cs n s at) ≡ []
+  left_none of zero at f e = refl
+  left_none of (suc n) at f e = rw (row_stop of s refl at f e)

@@ -1,6 +1,9 @@
 -- The lines of a bridge and of a burst.
-use Rattle.std.specs.Prelude.{ℕ, List, [], ◌∷◌, codes, slice_index}
+use Rattle.std.specs.Prelude.{◌≡◌, ℕ, List, [], ◌∷◌, Some, None, Ok, Err, Result, codes, slice_index}
+use Rattle.axi.specs.Plans.{upper_bytes, lower_bytes, level_number, refused_plan}
 use Rattle.axi.specs.declared.burst.Burst.{Burst}
+use Rattle.axi.specs.declared.plan.Plan.{Plan}
+use Rattle.axi.specs.declared.plan.PlanRefusal.{PlanRefusal}
 use Rattle.sections.specs.declared.line.Settings.{Settings}
 use Rattle.words.specs.Lines.{numbers, headed}
 use Rattle.words.specs.Reading.{Read, then}
@@ -17,6 +20,11 @@ settings_values vs = record { upper = slice_index vs 0; lower = slice_index vs 1
 
 abbrev pub bridge_line : List ℕ → ℕ → Read Settings
 bridge_line s at = then (headed (codes "bridge") bridge_carriers s at) (λ vs after. got (settings_values vs) after)
+
+-- the plan with these settings, or the first reason against it
+abbrev pub PlanOf : Settings → Result Plan PlanRefusal → Type 0
+PlanOf b (Ok p) = (refused_plan b.upper b.lower b.level ≡ None) × (upper_bytes p ≡ b.upper) × (lower_bytes p ≡ b.lower) × (level_number p.level ≡ b.level)
+PlanOf b (Err e) = refused_plan b.upper b.lower b.level ≡ Some e
 
 -- ID ADDR LEN SIZE BURST LOCK CACHE PROT
 abbrev pub burst_carriers : List Carrier

@@ -1,5 +1,5 @@
 -- Sections: a count line, and as many lines.
-use Rattle.std.specs.Prelude.{ℕ, zero, suc, List, [], ◌∷◌, slice_index}
+use Rattle.std.specs.Prelude.{ℕ, zero, suc, List, [], ◌∷◌, map, slice_index}
 use Rattle.words.specs.Lines.{numbers, headed}
 use Rattle.words.specs.Reading.{Read, then}
 use Rattle.words.specs.Reading.Read.{got, stop}
@@ -39,8 +39,15 @@ rows_left cs zero s at = []
 rows_left cs (suc n) s at = listed (row cs s at) (λ next. rows_left cs n s next)
 
 -- the bytes of the script that a section lies in
-abbrev pub section_text : Section → List ℕ
+abbrev pub section_text : {T : _} → Section T → List ℕ
 section_text x = text x.lines
 
-abbrev pub section_rows : List Carrier → Section → List Row
+abbrev pub section_rows : {T : _} → List Carrier → Section T → List Row
 section_rows cs x = rows_left cs x.count (section_text x) x.lines.at
+
+-- what a line stands for, and what the lines that are left in a section do
+abbrev pub entry : {X : Type 0} → List Carrier → (Row → X) → List ℕ → ℕ → Read X
+entry cs of s at = then (numbers cs s at) (λ vs after. got (of (record { place = at; values = vs })) after)
+
+abbrev pub entries : {T X : Type 0} → List Carrier → (Row → X) → Section T → List X
+entries cs of x = map of (section_rows cs x)

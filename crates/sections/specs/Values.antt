@@ -1,10 +1,10 @@
 -- What the lines of each section stand for.
-use Rattle.std.specs.Prelude.{◌≡◌, ℕ, List, [], ◌∷◌, map, Some, None, Option, slice_index}
+use Rattle.std.specs.Prelude.{◌≡◌, ℕ, List, [], ◌∷◌, map, Some, None, Option, IfSome, slice_index}
 use Rattle.axi.specs.declared.burst.Burst.{Burst}
 use Rattle.axi.specs.declared.wires.Beat.{Beat}
 use Rattle.axi.specs.declared.wires.LowerRead.{LowerRead}
 use Rattle.sections.specs.Lines.{burst_carriers}
-use Rattle.sections.specs.Sections.{Row, section_rows}
+use Rattle.sections.specs.Sections.{Row, entries, section_rows, section_text}
 use Rattle.words.specs.declared.carrier.Carrier.{Carrier}
 use Rattle.words.specs.declared.carrier.Carrier.TheVariants.{Bits8, Bits10, Bits64}
 use Rattle.sections.specs.declared.section.Gate.{Gate}
@@ -59,22 +59,28 @@ abbrev pub gate_at : Gate → GateAt
 gate_at g = record { bits = g.bits; place = g.at.at }
 
 -- the entries that are left in a section
-unfoldable pub bursts : Section → List Burst
+unfoldable pub bursts : Section Burst → List Burst
 bursts x = map burst_of (section_rows burst_carriers x)
 
-unfoldable pub beats : Section → List Beat
+unfoldable pub beats : Section Beat → List Beat
 beats x = map beat_of (section_rows beat_carriers x)
 
-unfoldable pub write_codes : Section → List ℕ
+unfoldable pub write_codes : Section ℕ → List ℕ
 write_codes x = map code_of (section_rows code_carriers x)
 
-unfoldable pub read_parts : Section → List LowerRead
+unfoldable pub read_parts : Section LowerRead → List LowerRead
 read_parts x = map part_of (section_rows part_carriers x)
 
-unfoldable pub gates : Section → List GateAt
+unfoldable pub gates : Section Gate → List GateAt
 gates x = map gate_of (section_rows gate_carriers x)
 
 -- a call gives the head of what is left, and leaves the tail; none of nothing
 abbrev pub Taken : {X Y : Type 0} → (Y → X) → List X → Option Y → List X → Type 0
 Taken seen before None after = (before ≡ []) × (after ≡ [])
 Taken seen before (Some y) after = before ≡ seen y ∷ after
+
+-- so does `next`, which stays in the script
+pub record NextGives {T X : Type 0} (cs : List Carrier) (of : Row → X) (seen : T → X) (In : List ℕ → T → Type 0) (before : Section T) (given : Option T) (after : Section T) : Type 0 where
+  pub taken : Taken seen (entries cs of before) given (entries cs of after)
+  pub same : section_text after ≡ section_text before
+  pub inside : IfSome given (In (section_text before))

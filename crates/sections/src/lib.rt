@@ -2,6 +2,7 @@
 
 #![tactic(auto)]
 
+pub mod entry;
 pub mod line;
 pub mod section;
 pub mod tables;

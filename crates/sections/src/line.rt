@@ -1,12 +1,9 @@
-//! Lines that other input has too: a bridge's and a burst's.
-ghost use Rattle.sections.specs.Lines.{burst_carriers, settings_values, burst_values, bridge_line, burst_line};
-ghost use Rattle.words.specs.Cursors.{text};
-ghost use Rattle.words.specs.Lines.{Fit};
-ghost use Rattle.words.specs.Reading.{Told};
-ghost use Rattle.std.specs.Prelude.{◌≡◌};
+//! The line of a bridge.
+ghost use Rattle.sections.specs.Lines.{bridge_line, PlanOf};
+ghost use Rattle.words.specs.Reading.{Reads};
 
-use crate::tables::{BRIDGE, BURST};
-use axi::burst::Burst;
+use crate::tables::BRIDGE;
+use axi::plan::{Plan, PlanRefusal};
 use words::cursor::Cursor;
 use words::fault::Fault;
 
@@ -21,8 +18,7 @@ pub struct Settings {
 impl Settings {
     /// The settings of a line `bridge U L level`, which the cursor passes.
     pub fn read(cursor: &mut Cursor) -> Result<Settings, Fault>
-        ensures same { text cursor.new ≡ text cursor.old }
-        ensures read { Told (bridge_line (text cursor.old) cursor.old.at) cursor.new.at result }
+        ensures { Reads bridge_line cursor.old cursor.new result }
     {
         let [upper, lower, level] = cursor.headed(b"bridge", &BRIDGE)?;
         Ok(Settings {
@@ -33,28 +29,13 @@ impl Settings {
     }
 }
 
-/// The burst with these numbers.
-pub(crate) fn burst_of(values: [u64; 8]) -> Burst
-    requires { Fit burst_carriers values }
-    ensures { result ≡ burst_values values }
-{
-    let [id, addr, len, size, burst, lock, cache, prot] = values;
-    Burst {
-        id: id as u16,
-        addr: addr as u32,
-        len: len as u8,
-        size: size as u8,
-        burst: burst as u8,
-        lock: lock as u8,
-        cache: cache as u8,
-        prot: prot as u8,
-    }
-}
+/// The plan with these settings, or the first reason against it.
+impl TryFrom<Settings> for Plan {
+    type Error = PlanRefusal;
 
-/// The burst of a line, which the cursor passes.
-pub fn read_burst(cursor: &mut Cursor) -> Result<Burst, Fault>
-    ensures same { text cursor.new ≡ text cursor.old }
-    ensures read { Told (burst_line (text cursor.old) cursor.old.at) cursor.new.at result }
-{
-    Ok(burst_of(cursor.numbers(&BURST)?))
+    ghost try_from_gives = { PlanOf };
+
+    fn try_from(settings: Settings) -> Result<Plan, PlanRefusal> {
+        Plan::new(settings.upper, settings.lower, settings.level)
+    }
 }

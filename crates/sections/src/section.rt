@@ -2,13 +2,15 @@
 mod next;
 mod read;
 
+use std::marker::PhantomData;
 use words::cursor::Cursor;
 
-/// The lines of a section that are left. Nothing is copied.
+/// The lines of a section that are left, and what each stands for. Nothing is copied.
 #[derive(Clone, Copy)]
-pub struct Section<'a> {
+pub struct Section<'a, T> {
     lines: Cursor<'a>,
     count: u16,
+    of: PhantomData<T>,
 }
 
 /// A gate: which wires may be high on an edge, and the cursor at its word, which has its line and place.

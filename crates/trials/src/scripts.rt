@@ -95,19 +95,19 @@ fn entries(rt: HostRuntime) -> Result<(), Fail> {
 /// Passes where these bytes hold one entry in each section but `reads`, two write responses and two gates.
 fn held(rt: &impl Abort, bytes: &[u8]) -> Result<(), Fail> {
     let mut script = Script::read(bytes)?;
-    assert_eq!(rt; script.upper, 8);
-    let burst = script.master.writes.next_burst().ok_or("no burst")?;
+    assert_eq!(rt; script.settings.upper, 8);
+    let burst = script.master.writes.next().ok_or("no burst")?;
     assert_eq!(rt; burst.addr, 0x1002);
-    assert!(rt; script.master.writes.next_burst().is_none());
-    let beat = script.master.beats.next_beat().ok_or("no beat")?;
+    assert!(rt; script.master.writes.next().is_none());
+    let beat = script.master.beats.next().ok_or("no beat")?;
     assert_eq!(rt; beat.wdata, 0x1122_3344_5566_7788);
-    assert_eq!(rt; script.block.wcodes.next_code(), Some(3));
-    assert_eq!(rt; script.block.wcodes.next_code(), Some(2));
-    assert_eq!(rt; script.block.wcodes.next_code(), None);
-    let part = script.block.rparts.next_part().ok_or("no part")?;
+    assert_eq!(rt; script.block.wcodes.next(), Some(3));
+    assert_eq!(rt; script.block.wcodes.next(), Some(2));
+    assert_eq!(rt; script.block.wcodes.next(), None);
+    let part = script.block.rparts.next().ok_or("no part")?;
     assert_eq!(rt; part.lrresp, 1);
-    let _ = script.gates.next_gate();
-    let gate = script.gates.next_gate().ok_or("no gate")?;
+    let _ = script.gates.next();
+    let gate = script.gates.next().ok_or("no gate")?;
     assert_eq!(rt; gate.bits, 1);
     assert_eq!(rt; gate.at.line(), 14);
     assert_eq!(rt; gate.at.place(), 119);
@@ -129,10 +129,10 @@ fn full() -> Result<Script<'static>, Fail> {
 #[test]
 fn bursts_and_beats(rt: HostRuntime) -> Result<(), Fail> {
     let mut script = full()?;
-    let burst = script.master.writes.next_burst().ok_or("no burst")?;
+    let burst = script.master.writes.next().ok_or("no burst")?;
     assert_eq!(rt; burst.addr, 0x1002);
-    assert!(rt; script.master.writes.next_burst().is_none());
-    let beat = script.master.beats.next_beat().ok_or("no beat")?;
+    assert!(rt; script.master.writes.next().is_none());
+    let beat = script.master.beats.next().ok_or("no beat")?;
     assert_eq!(rt; beat.wdata, 0x1122_3344_5566_7788);
     Ok(())
 }
@@ -140,10 +140,10 @@ fn bursts_and_beats(rt: HostRuntime) -> Result<(), Fail> {
 #[test]
 fn answers_of_the_block(rt: HostRuntime) -> Result<(), Fail> {
     let mut script = full()?;
-    assert_eq!(rt; script.block.wcodes.next_code(), Some(3));
-    assert_eq!(rt; script.block.wcodes.next_code(), Some(2));
-    assert_eq!(rt; script.block.wcodes.next_code(), None);
-    let part = script.block.rparts.next_part().ok_or("no part")?;
+    assert_eq!(rt; script.block.wcodes.next(), Some(3));
+    assert_eq!(rt; script.block.wcodes.next(), Some(2));
+    assert_eq!(rt; script.block.wcodes.next(), None);
+    let part = script.block.rparts.next().ok_or("no part")?;
     assert_eq!(rt; part.lrresp, 1);
     Ok(())
 }
@@ -151,10 +151,10 @@ fn answers_of_the_block(rt: HostRuntime) -> Result<(), Fail> {
 #[test]
 fn gates(rt: HostRuntime) -> Result<(), Fail> {
     let mut script = full()?;
-    let _ = script.gates.next_gate();
-    let gate = script.gates.next_gate().ok_or("no gate")?;
+    let _ = script.gates.next();
+    let gate = script.gates.next().ok_or("no gate")?;
     assert_eq!(rt;
-        (gate.bits, gate.at.line(), gate.at.place(), script.upper),
+        (gate.bits, gate.at.line(), gate.at.place(), script.settings.upper),
         (1, 14, 119, 8)
     );
     Ok(())

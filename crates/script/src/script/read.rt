@@ -1,15 +1,15 @@
 //! Reading a whole script.
 ghost use Rattle.words.specs.Cursors.{text};
 ghost use Rattle.script.specs.Laws.{Points, ReadsBack};
-ghost use Rattle.words.specs.Reading.{ToldAs};
+ghost use Rattle.words.specs.Reading.{ReadsAs};
 ghost use Rattle.script.specs.Scripts.{script, master, block, edges, master_left, block_left, Reads};
 ghost use Rattle.sections.specs.Sections.{section_text};
 ghost use Rattle.sections.specs.Values.{gates};
 ghost use Rattle.std.specs.Prelude.{◌≡◌, length, IfOk, nat_le};
 
 use crate::script::{Block, Master, Script};
-use sections::section::Section;
-use sections::tables::BRIDGE;
+use sections::line::Settings;
+use sections::section::{Gate, Section};
 use words::cursor::Cursor;
 use words::fault::{Fault, Wrong};
 
@@ -25,46 +25,45 @@ fn short(bytes: &[u8]) -> bool
 
 impl<'a> Master<'a> {
     /// The sections of the master, which the cursor passes.
+    #[tactic(auto, unfolding(sections::specs::Values::bursts, sections::specs::Values::beats))]
     fn read(cursor: &mut Cursor<'a>) -> Result<Self, Fault>
-        ensures same { text cursor.new ≡ text cursor.old }
-        ensures read { ToldAs master_left (master (text cursor.old) cursor.old.at) cursor.new.at result }
+        ensures { ReadsAs master_left master cursor.old cursor.new result }
     {
-        let writes = Section::read_bursts(cursor, b"writes")?;
-        let beats = Section::read_beats(cursor, b"beats")?;
-        let reads = Section::read_bursts(cursor, b"reads")?;
         Ok(Master {
-            writes,
-            beats,
-            reads,
+            writes: Section::read(cursor, b"writes")?,
+            beats: Section::read(cursor, b"beats")?,
+            reads: Section::read(cursor, b"reads")?,
         })
     }
 }
 
 impl<'a> Block<'a> {
     /// The sections of the block, which the cursor passes.
+    #[tactic(auto, unfolding(sections::specs::Values::write_codes, sections::specs::Values::read_parts))]
     fn read(cursor: &mut Cursor<'a>) -> Result<Self, Fault>
-        ensures same { text cursor.new ≡ text cursor.old }
-        ensures read { ToldAs block_left (block (text cursor.old) cursor.old.at) cursor.new.at result }
+        ensures { ReadsAs block_left block cursor.old cursor.new result }
     {
-        let wcodes = Section::read_codes(cursor, b"wcodes")?;
-        let rparts = Section::read_parts(cursor, b"rparts")?;
-        Ok(Block { wcodes, rparts })
+        Ok(Block {
+            wcodes: Section::read(cursor, b"wcodes")?,
+            rparts: Section::read(cursor, b"rparts")?,
+        })
     }
 }
 
 /// The gates, which are the last section.
-fn edges<'a>(cursor: &mut Cursor<'a>) -> Result<Section<'a>, Fault>
-    ensures same { text cursor.new ≡ text cursor.old }
-    ensures read { ToldAs gates (edges (text cursor.old) cursor.old.at) cursor.new.at result }
+#[tactic(auto, unfolding(sections::specs::Values::gates))]
+fn edges<'a>(cursor: &mut Cursor<'a>) -> Result<Section<'a, Gate<'a>>, Fault>
+    ensures reads { ReadsAs gates edges cursor.old cursor.new result }
     ensures inside { IfOk result (λ x. section_text x ≡ text cursor.old) }
 {
-    let section = Section::read_gates(cursor, b"gates")?;
+    let section = Section::read(cursor, b"gates")?;
     cursor.end()?;
     Ok(section)
 }
 
 impl<'a> Script<'a> {
     /// The script in these bytes, or the first fault.
+    #[tactic(auto, unfolding(crate::specs::Scripts::script))]
     fn parse(bytes: &'a [u8]) -> Result<Script<'a>, Fault>
         ensures read { Reads (script bytes.now) result }
         ensures inside { IfOk result (λ x. section_text x.gates ≡ bytes.now) }
@@ -73,17 +72,11 @@ impl<'a> Script<'a> {
         if !short(bytes) {
             return Err(cursor.fault(Wrong::TooLong));
         }
-        let [upper, lower, level] = cursor.headed(b"bridge", &BRIDGE)?;
-        let master = Master::read(&mut cursor)?;
-        let block = Block::read(&mut cursor)?;
-        let gates = edges(&mut cursor)?;
         Ok(Script {
-            upper: upper as u8,
-            lower: lower as u8,
-            level: level as u8,
-            master,
-            block,
-            gates,
+            settings: Settings::read(&mut cursor)?,
+            master: Master::read(&mut cursor)?,
+            block: Block::read(&mut cursor)?,
+            gates: edges(&mut cursor)?,
         })
     }
 

@@ -6,5 +6,6 @@ use Rattle.sections.proofs.section.read.pass.Given as goal
 
 abbrev pub invariant-loop : goal.invariant-loop
 invariant-loop g l =
-    (text l.cursor ≡ text l.initial.cursor) ×
-    (rows l.carriers l.counter (text l.initial.cursor) l.initial.cursor.at ≡ got (rows_left l.carriers l.counter (text l.initial.cursor) l.initial.cursor.at) l.cursor.at)
+    let cs = g.T.Entry.carriers in
+    let s = text l.initial.cursor in
+    (text l.cursor ≡ s) × (rows cs l.counter s l.initial.cursor.at ≡ got (rows_left cs l.counter s l.initial.cursor.at) l.cursor.at)
