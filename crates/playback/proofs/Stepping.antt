@@ -13,13 +13,9 @@ use Rattle.ledgers.specs.Ledgers.{crossing}
 use Rattle.ledgers.specs.Wires as wires
 use Rattle.playback.proofs.Order.{told_in_order}
 use Rattle.transcript.specs.Crossings.{there, edge_crossings}
-use Rattle.playback.specs.Entries.{Stock, wires_of, driven, left_after}
+use Rattle.playback.specs.Entries.{Stock, driven, left_after}
 use Rattle.playback.specs.Runs.{in_order, CrossedOver}
 use Rattle.transcript.specs.declared.crossing.Crossing.{Crossing}
-
-pub driven_is : (e : Stock) (gate : ℕ) → wires_of e gate ≡ driven e gate
-unfolding driven
-driven_is e gate = refl
 
 -- ARESETn is high on every edge
 pub never_resets : (e : Stock) (gate : ℕ) → (driven e gate).aresetn ≡ true

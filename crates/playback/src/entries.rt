@@ -1,21 +1,15 @@
 //! The entries that are left of a script's sections, and the wires that they drive.
-ghost use Rattle.playback.specs.Entries.{stock, wires_of, driven, left_after, allowed};
+ghost use Rattle.playback.specs.Entries.{stock, driven, left_after, allowed};
 ghost use Rattle.ledgers.specs.Lists.{any, oldest, less_if};
 ghost use Rattle.sections.specs.Sections.{entries};
 ghost use Rattle.std.specs.Prelude.{◌≡◌, ◌&&◌};
 
-use axi::wires::{Inputs, LowerRead};
+use axi::burst::Burst;
+use axi::wires::{Beat, Inputs, LowerRead};
 use bridge::report::Crossed;
-use engines::taken::{NO_BEAT, NO_BURST};
 use script::script::{Block, Master};
 use sections::entry::Entry;
 use sections::section::Section;
-
-/// The payload of LR where no answer is left.
-const NO_PART: LowerRead = LowerRead {
-    lrdata: 0,
-    lrresp: 0,
-};
 
 /// The wires that a gate allows, by their bits.
 #[derive(Clone, Copy)]
@@ -70,10 +64,10 @@ pub struct Entries<'a> {
 }
 
 impl<'a> Entries<'a> {
-    /// Each wire by its gate bit and its section.
-    #[tactic(auto, unfolding(sections::specs::Values::bursts, sections::specs::Values::beats, sections::specs::Values::write_codes, sections::specs::Values::read_parts))]
-    fn drive(&self, gate: u16) -> Inputs
-        ensures { result ≡ wires_of (stock self.now) gate }
+    /// The wires of master and block on an edge with this gate: each by its bit and its section.
+    #[tactic(auto, unfolding(crate::specs::Entries::driven, sections::specs::Values::bursts, sections::specs::Values::beats, sections::specs::Values::write_codes, sections::specs::Values::read_parts))]
+    pub fn wires(&self, gate: u16) -> Inputs
+        ensures { result ≡ driven (stock self.now) gate }
     {
         let Master {
             writes,
@@ -84,12 +78,12 @@ impl<'a> Entries<'a> {
         Inputs {
             aresetn: true,
             awvalid: valid(writes, allows(gate, Wire::AwValid)),
-            aw: payload(writes, NO_BURST.burst),
+            aw: payload(writes, Burst::default()),
             wvalid: valid(beats, allows(gate, Wire::WValid)),
-            w: payload(beats, NO_BEAT),
+            w: payload(beats, Beat::default()),
             bready: allows(gate, Wire::BReady),
             arvalid: valid(reads, allows(gate, Wire::ArValid)),
-            ar: payload(reads, NO_BURST.burst),
+            ar: payload(reads, Burst::default()),
             rready: allows(gate, Wire::RReady),
             lawready: allows(gate, Wire::LawReady),
             lwready: allows(gate, Wire::LwReady),
@@ -97,15 +91,8 @@ impl<'a> Entries<'a> {
             lbresp: payload(wcodes, 0),
             larready: allows(gate, Wire::LarReady),
             lrvalid: valid(rparts, allows(gate, Wire::LrValid)),
-            lr: payload(rparts, NO_PART),
+            lr: payload(rparts, LowerRead::default()),
         }
-    }
-
-    /// The wires of master and block on an edge with this gate.
-    pub fn wires(&self, gate: u16) -> Inputs
-        ensures { result ≡ driven (stock self.now) gate }
-    {
-        self.drive(gate)
     }
 
     /// What crosses on an edge uses up its entries.

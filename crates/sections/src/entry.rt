@@ -16,14 +16,18 @@ use words::fault::Fault;
 
 /// What a line of a section stands for.
 pub trait Entry<'a>: Copy {
+    // The carriers of the line's numbers.
     ghost carriers: { List declared.Carrier };
 
+    // What contracts say of an entry: itself, or its place in the script too.
     ghost Seen: { Type 0 };
 
     ghost seen: { Self → Seen };
 
+    // What a line with these numbers stands for.
     ghost of: { Row → Seen };
 
+    // Whether an entry that points into a script points into this one.
     ghost inside: { List ℕ → Self → Type 0 } = { λ _ _. Unit {0} };
 
     /// The entry of a line, which the cursor passes.
