@@ -8,7 +8,7 @@ use Rattle.words.specs.Reading.{Read, then}
 use Rattle.words.specs.Reading.Read.{got, stop}
 use Rattle.script.specs.Scripts.{Contents, master, block, edges, whole, outcome, script}
 use Rattle.sections.specs.Sections.{Row, row, rows, section, count_carriers}
-use Rattle.sections.specs.Lines.{bridge_line}
+use Rattle.sections.specs.Lines.{bridge_carriers}
 use Rattle.sections.specs.Values.{GateAt, gate_carriers, gate_of}
 use Rattle.words.specs.Words.{word, word_length, number, end}
 use Rattle.words.specs.declared.carrier.Carrier.{Carrier}
@@ -75,7 +75,7 @@ ContentsAt s c = GatesAt s c.gates
 
 whole_at : (s : List ℕ) → Given (ContentsAt s) (whole s)
 whole_at s =
-    given_then (ContentsAt s) (bridge_line s 0) _ (λ _ at₁ _.
+    given_then (ContentsAt s) (headed (codes "bridge") bridge_carriers s 0) _ (λ _ at₁ _.
     given_then (ContentsAt s) (master s at₁) _ (λ _ at₂ _.
     given_then (ContentsAt s) (block s at₂) _ (λ _ at₃ _.
     given_then (ContentsAt s) (edges s at₃) _ (λ gs at₄ e. subst (Given (GatesAt s)) e (edges_at s at₃)))))

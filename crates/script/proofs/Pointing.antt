@@ -12,7 +12,7 @@ use Rattle.words.specs.Reading.{Read, then}
 use Rattle.words.specs.Reading.Read.{got, stop}
 use Rattle.script.specs.Scripts.{Contents, master, block, edges, whole, script, outcome}
 use Rattle.sections.specs.Sections.{row, rows, section, count_carriers}
-use Rattle.sections.specs.Lines.{bridge_carriers, bridge_line, burst_carriers}
+use Rattle.sections.specs.Lines.{bridge_carriers, burst_carriers}
 use Rattle.sections.specs.Values.{beat_carriers, code_carriers, part_carriers, gate_carriers}
 use Rattle.words.specs.Words.{of_word, word_length, word, keyword, number, separator, end}
 use Rattle.words.specs.declared.carrier.Carrier.{Carrier}
@@ -96,7 +96,7 @@ module _ (s : List ℕ) (at : ℕ) (h : at ≤ length s) where
 
 whole_stays : (s : List ℕ) → Stays s (whole s)
 whole_stays s =
-    then_stays s (bridge_line s 0) _ (then_stays s (headed (codes "bridge") bridge_carriers s 0) _ (headed_stays (codes "bridge") bridge_carriers s 0 (omega arith)) (λ _ at₁ h₁. h₁)) (λ _ at₁ h₁.
+    then_stays s (headed (codes "bridge") bridge_carriers s 0) _ (headed_stays (codes "bridge") bridge_carriers s 0 (omega arith)) (λ _ at₁ h₁.
     then_stays s (master s at₁) _ (master_stays s at₁ h₁) (λ _ at₂ h₂.
     then_stays s (block s at₂) _ (block_stays s at₂ h₂) (λ _ at₃ h₃.
     then_stays s (edges s at₃) _ (edges_stay s at₃ h₃) (λ _ at₄ h₄. h₄))))

@@ -1,10 +1,11 @@
 -- A whole script.
-use Rattle.std.specs.Prelude.{◌≡◌, ℕ, cond, List, map, length, Ok, Err, codes, Result, nat_le}
+use Rattle.std.specs.Prelude.{◌≡◌, ℕ, cond, List, map, length, Ok, Err, codes, Result, nat_le, slice_index}
 use Rattle.axi.specs.declared.burst.Burst.{Burst}
 use Rattle.axi.specs.declared.wires.Beat.{Beat}
 use Rattle.axi.specs.declared.wires.LowerRead.{LowerRead}
 use Rattle.words.specs.Faults.{fault_at}
-use Rattle.sections.specs.Lines.{bridge_line, burst_carriers}
+use Rattle.sections.specs.Lines.{bridge_carriers, burst_carriers}
+use Rattle.words.specs.Lines.{headed}
 use Rattle.words.specs.Reading.{Read, then}
 use Rattle.words.specs.Reading.Read.{got, stop}
 use Rattle.sections.specs.Sections.{section}
@@ -56,11 +57,11 @@ edges s at =
 
 abbrev pub whole : List ℕ → Read Contents
 whole s =
-    then (bridge_line s 0) λ settings at₁.
+    then (headed (codes "bridge") bridge_carriers s 0) λ bridge at₁.
     then (master s at₁) λ master at₂.
     then (block s at₂) λ block at₃.
     then (edges s at₃) λ gates after.
-    got (record { upper = settings.upper; lower = settings.lower; level = settings.level; master = master; block = block; gates = gates }) after
+    got (record { upper = slice_index bridge 0; lower = slice_index bridge 1; level = slice_index bridge 2; master = master; block = block; gates = gates }) after
 
 abbrev pub outcome : {X : Type 0} → Read X → Result X Fault
 outcome (got x after) = Ok x

@@ -18,6 +18,10 @@ bridge_carriers = Bits8 ∷ Bits8 ∷ Bits8 ∷ []
 abbrev pub settings_values : List ℕ → Settings
 settings_values vs = record { upper = slice_index vs 0; lower = slice_index vs 1; level = slice_index vs 2 }
 
+-- the numbers of the line, by its settings
+abbrev pub settings_row : Settings → List ℕ
+settings_row b = b.upper ∷ b.lower ∷ b.level ∷ []
+
 abbrev pub bridge_line : List ℕ → ℕ → Read Settings
 bridge_line s at = then (headed (codes "bridge") bridge_carriers s at) (λ vs after. got (settings_values vs) after)
 

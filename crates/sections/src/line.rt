@@ -1,6 +1,8 @@
 //! The line of a bridge.
-ghost use Rattle.sections.specs.Lines.{bridge_line, PlanOf};
-ghost use Rattle.words.specs.Reading.{Reads};
+ghost use Rattle.sections.specs.Lines.{bridge_carriers, bridge_line, settings_row, PlanOf};
+ghost use Rattle.std.specs.Prelude.{codes};
+ghost use Rattle.words.specs.Lines.{headed};
+ghost use Rattle.words.specs.Reading.{Reads, ReadsAs};
 
 use crate::tables::BRIDGE;
 use axi::plan::{Plan, PlanRefusal};
@@ -18,7 +20,8 @@ pub struct Settings {
 impl Settings {
     /// The settings of a line `bridge U L level`, which the cursor passes.
     pub fn read(cursor: &mut Cursor) -> Result<Settings, Fault>
-        ensures { Reads bridge_line cursor.old cursor.new result }
+        ensures reads { Reads bridge_line cursor.old cursor.new result }
+        ensures numbers { ReadsAs settings_row (headed (codes "bridge") bridge_carriers) cursor.old cursor.new result }
     {
         let [upper, lower, level] = cursor.headed(b"bridge", &BRIDGE)?;
         Ok(Settings {
