@@ -7,6 +7,7 @@ use Rattle.parts.specs.declared.cut.Parts.{Parts}
 use Rattle.axi.specs.declared.wires.Place.{Place}
 use Rattle.ledgers.specs.Reader as spec
 use Rattle.engines.specs.Protocol.{pieces, joining, place}
+use Rattle.engines.specs.Queues.{when}
 use Rattle.engines.specs.Tasks.{task_burst, task_sum}
 use Rattle.engines.specs.declared.task.Task.{Task}
 use Rattle.engines.specs.declared.reader.Reader.{Reader}
@@ -26,6 +27,9 @@ reader_view p (Send t c) = spec.Reader.send (task_burst t) t.walk.count (task_su
 reader_view p (Await t c) = spec.Reader.await (task_burst t) t.walk.count (task_sum t) (part_at t c) (parts_after p t c)
 reader_view p (Close t) = spec.Reader.close (task_burst t) t.walk.count (task_sum t)
 
--- what the engine drives
+-- what the engine drives: a part on LAR where LARVALID is high, and LRREADY
 abbrev pub reader_wires : Plan → Reader → ReaderWires
-reader_wires p r = record { larvalid = spec.lar_valid (reader_view p r); lar = spec.lar_shown (reader_view p r); lrready = spec.lr_ready (reader_view p r) }
+reader_wires p r = record {
+  lar = when (spec.lar_valid (reader_view p r)) (spec.lar_shown (reader_view p r));
+  lrready = spec.lr_ready (reader_view p r);
+}

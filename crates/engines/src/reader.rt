@@ -3,18 +3,17 @@ ghost use Rattle.std.specs.Prelude.{◌≡◌, ℕ, ◌-◌, map};
 ghost use Rattle.answers.specs.Join.{join_reads, part_answer};
 ghost use Rattle.parts.specs.Parts.{further};
 ghost use Rattle.engines.specs.Cursors.{cursor_places};
-ghost use Rattle.engines.specs.Protocol.{pieces, joining, place, no_place, read_beat_of};
+ghost use Rattle.engines.specs.Protocol.{pieces, joining, place, read_beat_of};
 ghost use Rattle.engines.specs.Reads.{reader_view, reader_wires};
 ghost use Rattle.engines.specs.Tasks.{task_burst, task_sum};
 ghost use Rattle.ledgers.specs.Due.{is_last};
 ghost use Rattle.ledgers.specs.Reader.{next_beat, with_parts, start_beat};
 
-use crate::taken::{NO_PLACE, Taken, parts_after};
+use crate::taken::{Taken, parts_after};
 use crate::task::Task;
 use answers::answer::Answer;
 use answers::collector::Collector;
 use answers::read::ReadAnswer;
-use axi::code::Code;
 use axi::plan::Plan;
 use axi::wires::{LowerRead, Place, ReadBeat};
 use parts::cut::Parts;
@@ -84,21 +83,16 @@ impl Task<ReadAnswer> {
         ReadBeat {
             id: self.walk.burst.id,
             rdata: sum.rdata,
-            code: if self.verdict.is_forwarded() {
-                sum.code
-            } else {
-                Code::SlvErr
-            },
+            code: self.response(sum.code),
             last: self.walk.is_empty(),
         }
     }
 }
 
-/// What the read engine drives.
-#[derive(Clone, Copy)]
+/// What the read engine drives: a part on LAR under its VALID, and LRREADY.
+#[derive(Clone, Copy, Default)]
 pub struct ReaderWires {
-    pub larvalid: bool,
-    pub lar: Place,
+    pub lar: Option<Place>,
     pub lrready: bool,
 }
 
@@ -117,20 +111,14 @@ impl Reader {
     {
         match self {
             Reader::Send(task, parts) => ReaderWires {
-                larvalid: true,
-                lar: task.place(parts.at),
+                lar: Some(task.place(parts.at)),
                 lrready: false,
             },
             Reader::Await(_, _) => ReaderWires {
-                larvalid: false,
-                lar: NO_PLACE,
                 lrready: true,
+                ..ReaderWires::default()
             },
-            Reader::Idle | Reader::Close(_) => ReaderWires {
-                larvalid: false,
-                lar: NO_PLACE,
-                lrready: false,
-            },
+            Reader::Idle | Reader::Close(_) => ReaderWires::default(),
         }
     }
 }

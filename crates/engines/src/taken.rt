@@ -68,11 +68,9 @@ impl Taken {
     pub fn cut(self, plan: Plan, at: u32) -> Option<Parts>
         ensures { cursor_places plan result ≡ cut_at plan self at }
     {
-        if self.verdict.is_forwarded() {
-            Some(Parts::of(plan, self.burst, at))
-        } else {
-            None
-        }
+        self.verdict
+            .is_forwarded()
+            .then(|| Parts::of(plan, self.burst, at))
     }
 }
 

@@ -1,13 +1,15 @@
 //! A burst under way, on either side.
 ghost use Rattle.parts.specs.Addresses.{left};
 ghost use Rattle.axi.specs.Bursts.{beats};
-ghost use Rattle.engines.specs.Protocol.{place};
+ghost use Rattle.axi.specs.declared.code.Code.TheVariants.{SlvErr};
+ghost use Rattle.engines.specs.Protocol.{place, if_forwarded};
 ghost use Rattle.engines.specs.Tasks.{task_burst, task_sum};
 ghost use Rattle.std.specs.Prelude.{◌≡◌};
 
 use crate::taken::Taken;
 use answers::answer::Answer;
 use answers::collector::Collector;
+use axi::code::Code;
 use axi::verdict::Verdict;
 use axi::wires::Place;
 use parts::walk::Walk;
@@ -67,6 +69,17 @@ impl<R: Answer + Copy> Task<R> {
             walk: self.walk,
             verdict: self.verdict,
             sum: self.sum.add(answer),
+        }
+    }
+
+    /// The response of the burst: SLVERR where it was refused, else what its answers join to.
+    pub fn response(self, joined: Code) -> Code
+        ensures { result ≡ if_forwarded (task_burst self) joined SlvErr }
+    {
+        if self.verdict.is_forwarded() {
+            joined
+        } else {
+            Code::SlvErr
         }
     }
 

@@ -1,14 +1,14 @@
 //! The write engine: one part under way at a time.
-ghost use Rattle.std.specs.Prelude.{◌≡◌, ℕ, ◌-◌, false, [], ◌∷◌, map};
-ghost use Rattle.engines.specs.Protocol.{pieces, joining, write_part, answer_of, no_place, no_beat};
+ghost use Rattle.std.specs.Prelude.{◌≡◌, ℕ, ◌-◌, not, [], ◌∷◌, map};
+ghost use Rattle.engines.specs.Protocol.{pieces, joining, write_part, answer_of};
 ghost use Rattle.engines.specs.Cursors.{cursor_places};
-ghost use Rattle.engines.specs.Writes.{writer_view, writer_wires, part_at, parts_after};
+ghost use Rattle.engines.specs.Writes.{law_crossed, lw_crossed, writer_view, writer_wires, part_at, parts_after};
 ghost use Rattle.engines.specs.Tasks.{task_burst, task_sum};
 ghost use Rattle.ledgers.specs.Writer.{next_beat, with_parts, sent, take_beat};
 ghost use Rattle.axi.specs.Codes.{read_code};
 ghost use Rattle.answers.specs.Join.{join_codes};
 
-use crate::taken::{NO_BEAT, NO_PLACE, parts_after};
+use crate::taken::parts_after;
 use crate::task::Task;
 use answers::answer::Answer;
 use axi::code::Code;
@@ -24,6 +24,33 @@ pub struct Part {
     pub parts: Parts,
 }
 
+/// On which channels a part has still to cross. One that has crossed on both waits for its response.
+#[derive(Clone, Copy)]
+pub enum Uncrossed {
+    /// On LAW and on LW.
+    Both,
+    /// On LAW alone.
+    Law,
+    /// On LW alone.
+    Lw,
+}
+
+impl Uncrossed {
+    /// Whether the part has still to cross on LAW.
+    pub fn has_law(self) -> bool
+        ensures { result ≡ not (law_crossed self) }
+    {
+        matches!(self, Uncrossed::Both | Uncrossed::Law)
+    }
+
+    /// Whether the part has still to cross on LW.
+    pub fn has_lw(self) -> bool
+        ensures { result ≡ not (lw_crossed self) }
+    {
+        matches!(self, Uncrossed::Both | Uncrossed::Lw)
+    }
+}
+
 /// What the write engine does.
 #[derive(Clone, Copy)]
 pub enum Writer {
@@ -31,8 +58,8 @@ pub enum Writer {
     Idle,
     /// Waits for the next data beat.
     Fetch(Task<Code>),
-    /// Offers a part on LAW and LW; the flags say which of them has crossed.
-    Send(Task<Code>, Part, bool, bool),
+    /// Offers a part on the channels that it has still to cross on.
+    Send(Task<Code>, Part, Uncrossed),
     /// Waits for the response to the part.
     Await(Task<Code>, Part),
     /// Waits for a slot for the answer.
@@ -56,7 +83,7 @@ impl Task<Code> {
         ensures { writer_view plan result ≡ with_parts (pieces plan) (joining plan) (task_burst self) self.walk.count (task_sum self) (map (write_part plan self.walk.burst beat) (cursor_places plan parts)) }
     {
         match parts {
-            Some(parts) => Writer::Send(self, Part { beat, parts }, false, false),
+            Some(parts) => Writer::Send(self, Part { beat, parts }, Uncrossed::Both),
             None => self.next_beat(),
         }
     }
@@ -78,14 +105,15 @@ impl Task<Code> {
             .with_parts(plan, part.beat, parts_after(plan, part.parts))
     }
 
-    /// What crossed of a part: it is offered on, or it waits for its response.
+    /// On which channels a part has crossed: it is offered on the others, or it waits for its response.
     pub fn send(self, part: Part, law: bool, lw: bool) -> Writer
         ensures { (p : Plan) → writer_view p result ≡ sent (pieces p) (joining p) (task_burst self) self.walk.count (task_sum self) (part_at p self part) (parts_after p self part) law lw }
     {
-        if law && lw {
-            Writer::Await(self, part)
-        } else {
-            Writer::Send(self, part, law, lw)
+        match (law, lw) {
+            (false, false) => Writer::Send(self, part, Uncrossed::Both),
+            (false, true) => Writer::Send(self, part, Uncrossed::Law),
+            (true, false) => Writer::Send(self, part, Uncrossed::Lw),
+            (true, true) => Writer::Await(self, part),
         }
     }
 
@@ -95,22 +123,16 @@ impl Task<Code> {
     {
         WriteAnswer {
             id: self.walk.burst.id,
-            code: if self.verdict.is_forwarded() {
-                self.sum.sum()
-            } else {
-                Code::SlvErr
-            },
+            code: self.response(self.sum.sum()),
         }
     }
 }
 
-/// What the write engine drives.
-#[derive(Clone, Copy)]
+/// What the write engine drives: a part on LAW and on LW, each under its VALID, and LBREADY.
+#[derive(Clone, Copy, Default)]
 pub struct WriterWires {
-    pub lawvalid: bool,
-    pub law: Place,
-    pub lwvalid: bool,
-    pub lw: Beat,
+    pub law: Option<Place>,
+    pub lw: Option<Beat>,
     pub lbready: bool,
 }
 
@@ -120,36 +142,18 @@ impl Writer {
         ensures { result ≡ writer_wires plan self }
     {
         match self {
-            Writer::Send(task, part, law, lw) => WriterWires {
-                lawvalid: !law,
-                law: if law {
-                    NO_PLACE
-                } else {
-                    task.place(part.parts.at)
-                },
-                lwvalid: !lw,
-                lw: if lw {
-                    NO_BEAT
-                } else {
-                    write_part(plan, part.parts.at, part.beat)
-                },
+            Writer::Send(task, part, uncrossed) => WriterWires {
+                law: uncrossed.has_law().then(|| task.place(part.parts.at)),
+                lw: uncrossed
+                    .has_lw()
+                    .then(|| write_part(plan, part.parts.at, part.beat)),
                 lbready: false,
             },
-            Writer::Await(_, _) => silent(true),
-            Writer::Idle | Writer::Fetch(_) | Writer::Close(_) => silent(false),
+            Writer::Await(_, _) => WriterWires {
+                lbready: true,
+                ..WriterWires::default()
+            },
+            Writer::Idle | Writer::Fetch(_) | Writer::Close(_) => WriterWires::default(),
         }
-    }
-}
-
-/// No part on offer.
-fn silent(lbready: bool) -> WriterWires
-    ensures { result ≡ record { lawvalid = false; law = no_place; lwvalid = false; lw = no_beat; lbready = lbready } }
-{
-    WriterWires {
-        lawvalid: false,
-        law: NO_PLACE,
-        lwvalid: false,
-        lw: NO_BEAT,
-        lbready,
     }
 }
