@@ -38,7 +38,7 @@ accepted_moved b x report t a =
     let J = joining p in
     let q = x.aresetn in
     let goes = step K J (slots (settings b)) (seen p b) (inputs_view p x) in
-    ap₂ (both p) a.writes a.reads
+    ap₂ (both p) a.becomes.writes a.becomes.reads
     ∙ both_or p q (writes_after b x) (no_writes p) (reads_after b x) (no_reads p)
     ∙ ap (λ s. cond q s (made K J)) (is_step b x)
     ∙ sym (ap (λ no. cond no (seen p b) (cond q goes (made K J))) (is_refused p x ∙ ap is_some a.fits))
@@ -53,7 +53,7 @@ moved b x t (Err e) o =
     ap (seen p) o.1 ∙ sym (ap (λ no. cond no (seen p b) (cond x.aresetn goes (made K J))) (is_refused p x ∙ ap is_some o.0))
 
 pub kept : (b : Bridge) (x : Inputs) (t : Bridge) (r : Result Report Refusal) → Outcome b x t r → settings t ≡ settings b
-kept b x t (Ok report) a = a.kept
+kept b x t (Ok report) a = a.becomes.kept
 kept b x t (Err e) o = ap settings o.1
 
 pub said : (b : Bridge) (x : Inputs) (t : Bridge) (r : Result Report Refusal) → Outcome b x t r → Answered b x t r

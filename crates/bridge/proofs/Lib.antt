@@ -2,3 +2,4 @@ pub mod QueueLaws
 pub mod Lawful
 pub mod Steps
 pub mod EdgeKept
+pub mod Shown

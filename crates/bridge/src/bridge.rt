@@ -1,17 +1,17 @@
 //! The whole bridge: both sides, edge by edge.
-ghost use Rattle.bridge.specs.Edges.{settings, Outcome, writes_after, reads_after, edge_report};
+ghost use Rattle.bridge.specs.Edges.{settings, Becomes, Outcome, writes_after, reads_after, edge_report};
 ghost use Rattle.bridge.specs.Machines.{seen, Keeps, edge_call, ask_wires_of, ask_owed_of, after_edge, Answered, outputs_view, shown_by, writes_owed_by, reads_owed_by};
 ghost use Rattle.engines.specs.Protocol.{pieces, joining};
 ghost use Rattle.ledgers.specs.OneByOne.{made};
-ghost use Rattle.reads.specs.ReadSides.{reads_view, no_reads};
+ghost use Rattle.reads.specs.ReadSides.{no_reads};
 ghost use Rattle.bridge.specs.Reports.{no_report};
-ghost use Rattle.writes.specs.WriteSides.{writes_view, no_writes};
+ghost use Rattle.writes.specs.WriteSides.{no_writes};
 ghost use Rattle.std.specs.Prelude.{◌≡◌, length};
 
 use crate::report::Report;
 use axi::plan::Plan;
 use axi::wires::{Beat, Inputs, Outputs, ReadBeat, Refusal, WriteAnswer};
-use engines::taken::{NO_ANSWER, NO_READ_BEAT, Taken};
+use engines::taken::{NO_ANSWER, NO_BEAT, NO_PLACE, NO_READ_BEAT, Taken};
 use reads::side::ReadSide;
 use writes::side::WriteSide;
 
@@ -108,9 +108,7 @@ impl<'a> Bridge<'a> {
     /// An edge with ARESETn high and wires that fit.
     fn run(&mut self, x: &Inputs) -> Report
         ensures report { result ≡ edge_report self.old x.now }
-        ensures writes { writes_view self.old.plan self.new.writes ≡ writes_after self.old x.now }
-        ensures reads { reads_view self.old.plan self.new.reads ≡ reads_after self.old x.now }
-        ensures kept { settings self.new ≡ settings self.old }
+        ensures becomes { Becomes self.old self.new (writes_after self.old x.now) (reads_after self.old x.now) }
     {
         let writes = self.writes.edge(self.plan, x);
         let reads = self.reads.edge(self.plan, x);
@@ -120,9 +118,7 @@ impl<'a> Bridge<'a> {
     /// An edge with ARESETn low.
     fn reset(&mut self) -> Report
         ensures report { result ≡ no_report }
-        ensures writes { writes_view self.old.plan self.new.writes ≡ no_writes self.old.plan }
-        ensures reads { reads_view self.old.plan self.new.reads ≡ no_reads self.old.plan }
-        ensures kept { settings self.new ≡ settings self.old }
+        ensures becomes { Becomes self.old self.new (no_writes self.old.plan) (no_reads self.old.plan) }
     {
         self.writes.reset();
         self.reads.reset();
@@ -130,6 +126,7 @@ impl<'a> Bridge<'a> {
     }
 
     /// The wires that the bridge drives, from its state alone.
+    #[tactic(auto, using(crate::proofs::QueueLaws::is_when, crate::proofs::Shown::write_shown, crate::proofs::Shown::read_shown))]
     fn drive(&self) -> Outputs
         ensures { outputs_view self.now.plan result ≡ shown_by self.now }
     {
@@ -145,13 +142,13 @@ impl<'a> Bridge<'a> {
             arready: self.reads.takes_burst(),
             rvalid: r.is_some(),
             r: r.unwrap_or(NO_READ_BEAT),
-            lawvalid: writer.lawvalid,
-            law: writer.law,
-            lwvalid: writer.lwvalid,
-            lw: writer.lw,
+            lawvalid: writer.law.is_some(),
+            law: writer.law.unwrap_or(NO_PLACE),
+            lwvalid: writer.lw.is_some(),
+            lw: writer.lw.unwrap_or(NO_BEAT),
             lbready: writer.lbready,
-            larvalid: reader.larvalid,
-            lar: reader.lar,
+            larvalid: reader.lar.is_some(),
+            lar: reader.lar.unwrap_or(NO_PLACE),
             lrready: reader.lrready,
         }
     }

@@ -9,7 +9,7 @@ use reads::side::ReadEvents;
 use writes::side::WriteEvents;
 
 /// The channels that crossed on an edge.
-#[derive(Clone, Copy)]
+#[derive(Clone, Copy, Default)]
 pub struct Crossed {
     pub aw: bool,
     pub w: bool,
@@ -33,7 +33,7 @@ pub struct Verdicts {
 }
 
 /// What an edge did.
-#[derive(Clone, Copy)]
+#[derive(Clone, Copy, Default)]
 pub struct Report {
     pub crossed: Crossed,
     /// The verdict on a write burst, where one was taken.
@@ -47,13 +47,10 @@ impl Verdicts {
     fn of(plan: Plan, taken: Option<Taken>) -> Option<Verdicts>
         ensures { result ≡ both_verdicts plan taken }
     {
-        match taken {
-            Some(taken) => Some(Verdicts {
-                verdict: taken.verdict,
-                protected: plan.judge_protected(taken.burst),
-            }),
-            None => None,
-        }
+        taken.map(|taken| Verdicts {
+            verdict: taken.verdict,
+            protected: plan.judge_protected(taken.burst),
+        })
     }
 }
 
@@ -62,22 +59,7 @@ impl Report {
     pub fn nothing() -> Report
         ensures { result ≡ no_report }
     {
-        Report {
-            crossed: Crossed {
-                aw: false,
-                w: false,
-                b: false,
-                ar: false,
-                r: false,
-                law: false,
-                lw: false,
-                lb: false,
-                lar: false,
-                lr: false,
-            },
-            write: None,
-            read: None,
-        }
+        Report::default()
     }
 
     /// What crossed on both sides.

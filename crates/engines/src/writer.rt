@@ -1,5 +1,5 @@
 //! The write engine: one part under way at a time.
-ghost use Rattle.std.specs.Prelude.{◌≡◌, ℕ, ◌-◌, not, [], ◌∷◌, map};
+ghost use Rattle.std.specs.Prelude.{◌≡◌, ℕ, ◌-◌, [], ◌∷◌, map};
 ghost use Rattle.engines.specs.Protocol.{pieces, joining, write_part, answer_of};
 ghost use Rattle.engines.specs.Cursors.{cursor_places};
 ghost use Rattle.engines.specs.Writes.{law_crossed, lw_crossed, writer_view, writer_wires, part_at, parts_after};
@@ -36,18 +36,18 @@ pub enum Uncrossed {
 }
 
 impl Uncrossed {
-    /// Whether the part has still to cross on LAW.
-    pub fn has_law(self) -> bool
-        ensures { result ≡ not (law_crossed self) }
+    /// Whether the part has crossed on LAW.
+    pub fn law_crossed(self) -> bool
+        ensures { result ≡ law_crossed self }
     {
-        matches!(self, Uncrossed::Both | Uncrossed::Law)
+        matches!(self, Uncrossed::Lw)
     }
 
-    /// Whether the part has still to cross on LW.
-    pub fn has_lw(self) -> bool
-        ensures { result ≡ not (lw_crossed self) }
+    /// Whether the part has crossed on LW.
+    pub fn lw_crossed(self) -> bool
+        ensures { result ≡ lw_crossed self }
     {
-        matches!(self, Uncrossed::Both | Uncrossed::Lw)
+        matches!(self, Uncrossed::Law)
     }
 }
 
@@ -143,10 +143,8 @@ impl Writer {
     {
         match self {
             Writer::Send(task, part, uncrossed) => WriterWires {
-                law: uncrossed.has_law().then(|| task.place(part.parts.at)),
-                lw: uncrossed
-                    .has_lw()
-                    .then(|| write_part(plan, part.parts.at, part.beat)),
+                law: (!uncrossed.law_crossed()).then(|| task.place(part.parts.at)),
+                lw: (!uncrossed.lw_crossed()).then(|| write_part(plan, part.parts.at, part.beat)),
                 lbready: false,
             },
             Writer::Await(_, _) => WriterWires {

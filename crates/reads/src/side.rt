@@ -1,8 +1,6 @@
 //! The read side: two queues and the read engine.
-ghost use Rattle.engines.specs.Inputs.{inputs_view};
-ghost use Rattle.engines.specs.Protocol.{judged, no_read_beat};
-ghost use Rattle.engines.specs.Queues.{when};
-ghost use Rattle.reads.specs.ReadSides.{reads_view, read_slots, no_reads, reads_moved, reads_crossed, read_events, reads_edged};
+ghost use Rattle.engines.specs.Protocol.{no_read_beat};
+ghost use Rattle.reads.specs.ReadSides.{reads_view, read_slots, no_reads, reads_crossed, read_side_events, read_side_moved, read_side_edged, below_of, ReadsBecome};
 ghost use Rattle.ledgers.specs.Lists.{any};
 ghost use Rattle.ledgers.specs.OneByOne.{room};
 ghost use Rattle.ledgers.specs.Reader.{busy};
@@ -11,7 +9,7 @@ ghost use Rattle.engines.specs.Queues.{lasts_of};
 ghost use Rattle.ring.specs.Circular.{first};
 ghost use Rattle.ring.specs.Entries.{entries};
 ghost use Rattle.ledgers.specs.Lists.{one_if};
-ghost use Rattle.std.specs.Prelude.{◌≡◌, ℕ, ◌+◌, ◌<◌, ◌≤◌, ◌&&◌, length, slice_index_or};
+ghost use Rattle.std.specs.Prelude.{◌≡◌, ℕ, ◌+◌, ◌<◌, ◌≤◌, length, slice_index_or};
 
 use axi::plan::Plan;
 use axi::wires::{Inputs, ReadBeat};
@@ -38,17 +36,11 @@ pub struct ReadEvents {
 }
 
 /// What crosses below on one edge of the read side.
-#[derive(Clone, Copy)]
+#[derive(Clone, Copy, Default)]
 struct Below {
     lar: bool,
     lr: bool,
 }
-
-/// No part is sent and none is answered.
-const NOTHING_BELOW: Below = Below {
-    lar: false,
-    lr: false,
-};
 
 impl<'a> ReadSide<'a> {
     /// Empty queues in the slots that are lent, and an idle engine.
@@ -65,11 +57,10 @@ impl<'a> ReadSide<'a> {
 
     /// One edge: the engine moves, then what crosses above enters and leaves. It answers what crossed.
     pub fn edge(&mut self, plan: Plan, x: &Inputs) -> ReadEvents
-        ensures events { result ≡ read_events plan (read_slots self.old) (reads_view plan self.old) (inputs_view plan x.now) }
-        ensures edged { reads_view plan self.new ≡ reads_edged plan (read_slots self.old) (reads_view plan self.old) (inputs_view plan x.now) }
-        ensures kept { read_slots self.new ≡ read_slots self.old }
+        ensures events { result ≡ read_side_events plan self.old x.now }
+        ensures edged { ReadsBecome plan self.old self.new (read_side_edged plan self.old x.now) }
     {
-        let ar = self.burst_taken(plan, x);
+        let ar = (x.arvalid & self.takes_burst()).then(|| Taken::new(plan, x.ar));
         let r = self.has_beat() & x.rready;
         let Below { lar, lr } = self.step(plan, x);
         let events = ReadEvents { ar, r, lar, lr };
@@ -112,27 +103,21 @@ impl<'a> ReadSide<'a> {
     pub fn owed(&self) -> u128
         ensures { (p : Plan) → result ≡ length (entries self.now.bursts) + busy (reader_view p self.now.reader) + lasts_of (entries self.now.beats) }
     {
-        let busy: u128 = if matches!(self.reader, Reader::Idle) {
-            0
-        } else {
-            1
-        };
+        let busy = u128::from(!matches!(self.reader, Reader::Idle));
         self.bursts.len() as u128 + busy + self.lasts() as u128
     }
 
     /// One move of the engine, by its state and the wires from below. It answers what crossed there.
     fn step(&mut self, plan: Plan, x: &Inputs) -> Below
-        ensures lar { result.lar ≡ (read_events plan (read_slots self.old) (reads_view plan self.old) (inputs_view plan x.now)).lar }
-        ensures lr { result.lr ≡ (read_events plan (read_slots self.old) (reads_view plan self.old) (inputs_view plan x.now)).lr }
-        ensures moved { reads_view plan self.new ≡ reads_moved plan (read_slots self.old) (reads_view plan self.old) (inputs_view plan x.now) }
-        ensures kept { read_slots self.new ≡ read_slots self.old }
+        ensures below { result ≡ below_of (read_side_events plan self.old x.now) }
+        ensures moved { ReadsBecome plan self.old self.new (read_side_moved plan self.old x.now) }
     {
         match (self.reader, x.larready, x.lrvalid) {
             (Reader::Idle, _, _) => {
                 if let Some(taken) = self.bursts.pop() {
                     self.reader = Reader::begin(plan, taken);
                 }
-                NOTHING_BELOW
+                Below::default()
             }
             (Reader::Send(task, parts), true, _) => {
                 self.reader = Reader::Await(task, parts);
@@ -148,12 +133,12 @@ impl<'a> ReadSide<'a> {
                     lr: true,
                 }
             }
-            (Reader::Send(_, _), false, _) | (Reader::Await(_, _), _, false) => NOTHING_BELOW,
+            (Reader::Send(_, _), false, _) | (Reader::Await(_, _), _, false) => Below::default(),
             (Reader::Close(task), _, _) => {
                 if self.beats.push(task.read_beat()) {
                     self.reader = task.next_read_beat(plan);
                 }
-                NOTHING_BELOW
+                Below::default()
             }
         }
     }
@@ -165,21 +150,9 @@ impl<'a> ReadSide<'a> {
         self.beats.front().is_some()
     }
 
-    /// The burst that crosses above, with the verdict that the plan gives it.
-    fn burst_taken(&self, plan: Plan, x: &Inputs) -> Option<Taken>
-        ensures { result ≡ when (x.now.arvalid && room (read_slots self.now).bursts (entries self.now.bursts)) (judged plan x.now.ar) }
-    {
-        if x.arvalid & self.takes_burst() {
-            Some(Taken::new(plan, x.ar))
-        } else {
-            None
-        }
-    }
-
     /// What crosses above: a beat leaves, a burst enters.
     fn cross(&mut self, plan: Plan, events: ReadEvents)
-        ensures crossed { reads_view plan self.new ≡ reads_crossed (read_slots self.old) events (reads_view plan self.old) }
-        ensures kept { read_slots self.new ≡ read_slots self.old }
+        ensures { ReadsBecome plan self.old self.new (reads_crossed (read_slots self.old) events (reads_view plan self.old)) }
     {
         if events.r {
             self.beats.pop();

@@ -1,20 +1,23 @@
 -- The write side of the bridge: its three queues and its engine.
-use Rattle.std.specs.Prelude.{ℕ, ◌&&◌, List, [], ◌++◌}
+use Rattle.std.specs.Prelude.{◌≡◌, ℕ, ◌&&◌, List, [], ◌++◌}
 use Rattle.ring.specs.Entries.{entries, slot_count}
 use Rattle.axi.specs.declared.plan.Plan.{Plan}
 use Rattle.axi.specs.declared.wires.Beat.{Beat}
+use Rattle.axi.specs.declared.wires.Inputs as declared
 use Rattle.axi.specs.declared.wires.WriteAnswer.{WriteAnswer}
 use Rattle.ledgers.specs.Lists.{less_if, any}
 use Rattle.ledgers.specs.Wires.{Inputs}
 use Rattle.ledgers.specs.OneByOne.{room}
 use Rattle.ledgers.specs.Writer as spec
 use Rattle.ledgers.specs.Writer.Side.{law_side, lw_side}
+use Rattle.engines.specs.Inputs.{inputs_view}
 use Rattle.engines.specs.Queues.{entered, when}
 use Rattle.engines.specs.Protocol.{pieces, joining, judged}
 use Rattle.engines.specs.Writes.{writer_view}
 use Rattle.engines.specs.declared.taken.Taken.{Taken}
 use Rattle.writes.specs.declared.side.WriteSide.{WriteSide}
 use Rattle.writes.specs.declared.side.WriteEvents.{WriteEvents}
+use Rattle.writes.specs.declared.side.Below.{Below}
 
 -- what waits, and what the engine does
 pub record Writes (p : Plan) : Type 0 where
@@ -73,3 +76,22 @@ writes_crossed sl e s = record {
 -- one edge: the engine moves, then what crosses above enters and leaves
 abbrev pub writes_edged : (p : Plan) → WriteSlots → Writes p → Inputs (pieces p) → Writes p
 writes_edged p sl s x = writes_crossed sl (write_events p sl s x) (writes_moved p sl s x)
+
+-- the same of a write side and the wires of an edge: what crosses, the engine's move, and the edge
+abbrev pub write_side_events : Plan → WriteSide → declared.Inputs → WriteEvents
+write_side_events p w x = write_events p (write_slots w) (writes_view p w) (inputs_view p x)
+
+abbrev pub write_side_moved : (p : Plan) → WriteSide → declared.Inputs → Writes p
+write_side_moved p w x = writes_moved p (write_slots w) (writes_view p w) (inputs_view p x)
+
+abbrev pub write_side_edged : (p : Plan) → WriteSide → declared.Inputs → Writes p
+write_side_edged p w x = writes_edged p (write_slots w) (writes_view p w) (inputs_view p x)
+
+-- what of it crosses below
+abbrev pub below_of : WriteEvents → Below
+below_of e = record { law = e.law; lw = e.lw; lb = e.lb }
+
+-- the write side w becomes t: what waits and what the engine does is s, and each queue keeps its slots
+pub record WritesBecome (p : Plan) (w t : WriteSide) (s : Writes p) : Type 0 where
+  pub view : writes_view p t ≡ s
+  pub kept : write_slots t ≡ write_slots w

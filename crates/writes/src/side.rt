@@ -1,17 +1,13 @@
 //! The write side: three queues and the write engine.
-ghost use Rattle.engines.specs.Inputs.{inputs_view};
-ghost use Rattle.writes.specs.WriteSides.{writes_view, write_slots, no_writes, writes_moved, writes_crossed, write_events, writes_edged};
-ghost use Rattle.engines.specs.Queues.{when};
-ghost use Rattle.engines.specs.Protocol.{judged};
+ghost use Rattle.writes.specs.WriteSides.{writes_view, write_slots, no_writes, writes_crossed, write_side_events, write_side_moved, write_side_edged, below_of, WritesBecome};
 ghost use Rattle.ledgers.specs.Lists.{any};
 ghost use Rattle.ledgers.specs.OneByOne.{room};
 ghost use Rattle.ledgers.specs.Writer.{busy};
 ghost use Rattle.engines.specs.Writes.{writer_view, writer_wires};
 ghost use Rattle.ring.specs.Circular.{first};
 ghost use Rattle.ring.specs.Entries.{entries};
-ghost use Rattle.std.specs.Prelude.{◌+◌, ◌&&◌, length, ◌≡◌};
+ghost use Rattle.std.specs.Prelude.{◌+◌, length, ◌≡◌};
 
-use axi::code::Code;
 use axi::plan::Plan;
 use axi::wires::{Beat, Inputs, WriteAnswer};
 use engines::taken::Taken;
@@ -42,19 +38,12 @@ pub struct WriteEvents {
 }
 
 /// What crosses below on one edge of the write side.
-#[derive(Clone, Copy)]
+#[derive(Clone, Copy, Default)]
 struct Below {
     law: bool,
     lw: bool,
     lb: bool,
 }
-
-/// No part is sent and none is answered.
-const NOTHING_BELOW: Below = Below {
-    law: false,
-    lw: false,
-    lb: false,
-};
 
 impl<'a> WriteSide<'a> {
     /// Empty queues in the slots that are lent, and an idle engine.
@@ -76,12 +65,11 @@ impl<'a> WriteSide<'a> {
 
     /// One edge: the engine moves, then what crosses above enters and leaves. It answers what crossed.
     pub fn edge(&mut self, plan: Plan, x: &Inputs) -> WriteEvents
-        ensures events { result ≡ write_events plan (write_slots self.old) (writes_view plan self.old) (inputs_view plan x.now) }
-        ensures edged { writes_view plan self.new ≡ writes_edged plan (write_slots self.old) (writes_view plan self.old) (inputs_view plan x.now) }
-        ensures kept { write_slots self.new ≡ write_slots self.old }
+        ensures events { result ≡ write_side_events plan self.old x.now }
+        ensures edged { WritesBecome plan self.old self.new (write_side_edged plan self.old x.now) }
     {
-        let aw = self.burst_taken(plan, x);
-        let w = self.beat_taken(x);
+        let aw = (x.awvalid & self.takes_burst()).then(|| Taken::new(plan, x.aw));
+        let w = (x.wvalid & self.takes_beat()).then_some(x.w);
         let b = self.has_answer() & x.bready;
         let Below { law, lw, lb } = self.step(plan, x);
         let events = WriteEvents {
@@ -139,36 +127,31 @@ impl<'a> WriteSide<'a> {
     pub fn owed(&self) -> u128
         ensures { (p : Plan) → result ≡ length (entries self.now.bursts) + busy (writer_view p self.now.writer) + length (entries self.now.answers) }
     {
-        let busy: u128 = if matches!(self.writer, Writer::Idle) {
-            0
-        } else {
-            1
-        };
+        let busy = u128::from(!matches!(self.writer, Writer::Idle));
         self.bursts.len() as u128 + busy + self.answers.len() as u128
     }
 
     /// One move of the engine, by its state and the wires from below. It answers what crossed there.
     fn step(&mut self, plan: Plan, x: &Inputs) -> Below
-        ensures law { result.law ≡ (write_events plan (write_slots self.old) (writes_view plan self.old) (inputs_view plan x.now)).law }
-        ensures lw { result.lw ≡ (write_events plan (write_slots self.old) (writes_view plan self.old) (inputs_view plan x.now)).lw }
-        ensures lb { result.lb ≡ (write_events plan (write_slots self.old) (writes_view plan self.old) (inputs_view plan x.now)).lb }
-        ensures moved { writes_view plan self.new ≡ writes_moved plan (write_slots self.old) (writes_view plan self.old) (inputs_view plan x.now) }
-        ensures kept { write_slots self.new ≡ write_slots self.old }
+        ensures below { result ≡ below_of (write_side_events plan self.old x.now) }
+        ensures moved { WritesBecome plan self.old self.new (write_side_moved plan self.old x.now) }
     {
         match (self.writer, x.lbvalid) {
             (Writer::Idle, _) => {
                 if let Some(taken) = self.bursts.pop() {
                     self.writer = Writer::Fetch(Task::new(taken));
                 }
-                NOTHING_BELOW
+                Below::default()
             }
             (Writer::Fetch(task), _) => {
                 if let Some(beat) = self.beats.pop() {
                     self.writer = task.take(plan, beat);
                 }
-                NOTHING_BELOW
+                Below::default()
             }
-            (Writer::Send(task, part, law, lw), _) => {
+            (Writer::Send(task, part, uncrossed), _) => {
+                let law = uncrossed.law_crossed();
+                let lw = uncrossed.lw_crossed();
                 self.writer = task.send(part, law | x.lawready, lw | x.lwready);
                 Below {
                     law: !law & x.lawready,
@@ -179,17 +162,16 @@ impl<'a> WriteSide<'a> {
             (Writer::Await(task, part), true) => {
                 self.writer = task.answer(plan, part, x.lbresp);
                 Below {
-                    law: false,
-                    lw: false,
                     lb: true,
+                    ..Below::default()
                 }
             }
-            (Writer::Await(_, _), false) => NOTHING_BELOW,
+            (Writer::Await(_, _), false) => Below::default(),
             (Writer::Close(task), _) => {
                 if self.answers.push(task.write_answer()) {
                     self.writer = Writer::Idle;
                 }
-                NOTHING_BELOW
+                Below::default()
             }
         }
     }
@@ -201,32 +183,9 @@ impl<'a> WriteSide<'a> {
         self.answers.front().is_some()
     }
 
-    /// The burst that crosses above, with the verdict that the plan gives it.
-    fn burst_taken(&self, plan: Plan, x: &Inputs) -> Option<Taken>
-        ensures { result ≡ when (x.now.awvalid && room (write_slots self.now).bursts (entries self.now.bursts)) (judged plan x.now.aw) }
-    {
-        if x.awvalid & self.takes_burst() {
-            Some(Taken::new(plan, x.aw))
-        } else {
-            None
-        }
-    }
-
-    /// The data beat that crosses above.
-    fn beat_taken(&self, x: &Inputs) -> Option<Beat>
-        ensures { result ≡ when (x.now.wvalid && room (write_slots self.now).beats (entries self.now.beats)) x.now.w }
-    {
-        if x.wvalid & self.takes_beat() {
-            Some(x.w)
-        } else {
-            None
-        }
-    }
-
     /// What crosses above: an answer leaves, a burst and a beat enter.
     fn cross(&mut self, plan: Plan, events: WriteEvents)
-        ensures crossed { writes_view plan self.new ≡ writes_crossed (write_slots self.old) events (writes_view plan self.old) }
-        ensures kept { write_slots self.new ≡ write_slots self.old }
+        ensures { WritesBecome plan self.old self.new (writes_crossed (write_slots self.old) events (writes_view plan self.old)) }
     {
         if events.b {
             self.answers.pop();
