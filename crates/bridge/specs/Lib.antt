@@ -1,3 +1,4 @@
 pub mod Reports
 pub mod Edges
 pub mod Machines
+pub mod Tables

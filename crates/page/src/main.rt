@@ -9,8 +9,8 @@ use anyhow::anyhow;
 use axi::plan::Plan;
 use axi::wires::{Inputs, Outputs};
 use block::Block;
-use bridge::bridge::{Bridge, Tables};
-use engines::taken::{NO_ANSWER, NO_BEAT, NO_BURST, NO_READ_BEAT};
+use bridge::bridge::Bridge;
+use bridge::slots::Slots;
 use firmware::Firmware;
 use std::io::Write;
 use transcript::crossing::{crossings, print_edge};
@@ -66,19 +66,8 @@ fn run(rt: &HostRuntime) -> anyhow::Result<()> {
     let Ok(plan) = Plan::new(8, 4, 0) else {
         return Err(anyhow!("no such plan"));
     };
-    let mut write_bursts = [NO_BURST; 4];
-    let mut data_beats = [NO_BEAT; 4];
-    let mut write_answers = [NO_ANSWER; 4];
-    let mut read_bursts = [NO_BURST; 4];
-    let mut read_beats = [NO_READ_BEAT; 4];
-    let tables = Tables {
-        write_bursts: &mut write_bursts,
-        data_beats: &mut data_beats,
-        write_answers: &mut write_answers,
-        read_bursts: &mut read_bursts,
-        read_beats: &mut read_beats,
-    };
-    let mut bridge = Bridge::new(plan, tables);
+    let mut slots: Slots<4> = Slots::new();
+    let mut bridge = Bridge::new(plan, slots.tables());
     let mut firmware = Firmware::new();
     let mut block = Block::new();
     let mut edges = 0;

@@ -9,8 +9,8 @@ ghost use Rattle.sections.specs.Sections.{section_text};
 use crate::entries::Entries;
 use crate::player::Bench;
 use axi::plan::Plan;
-use bridge::bridge::{Bridge, Tables};
-use engines::taken::{NO_ANSWER, NO_BEAT, NO_BURST, NO_READ_BEAT};
+use bridge::bridge::Bridge;
+use bridge::slots::Slots;
 use script::script::Script;
 use std::alloc::{AllocError, Global};
 use transcript::ending::Ending;
@@ -38,20 +38,9 @@ fn prepare<'a>(bytes: &'a [u8]) -> Result<(Plan, Script<'a>), PlayerFault>
 fn run_script(plan: Plan, script: Script, out: &mut Vec<u8>) -> Result<Ending, AllocError>
     ensures { IfOk result (λ end. Ran (played_through (section_text script.entry.gates) (contents script.entry) plan) out.old.items out.new.items end) }
 {
-    let mut write_bursts = [NO_BURST; 4];
-    let mut data_beats = [NO_BEAT; 4];
-    let mut write_answers = [NO_ANSWER; 4];
-    let mut read_bursts = [NO_BURST; 4];
-    let mut read_beats = [NO_READ_BEAT; 4];
-    let tables = Tables {
-        write_bursts: &mut write_bursts,
-        data_beats: &mut data_beats,
-        write_answers: &mut write_answers,
-        read_bursts: &mut read_bursts,
-        read_beats: &mut read_beats,
-    };
+    let mut slots: Slots<4> = Slots::new();
     let mut bench = Bench {
-        bridge: Bridge::new(plan, tables),
+        bridge: Bridge::new(plan, slots.tables()),
         entries: Entries {
             master: script.master,
             block: script.block,

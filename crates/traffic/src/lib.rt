@@ -10,9 +10,8 @@ ghost use Rattle.std.specs.Prelude.{◌≡◌, ◌≢◌, None};
 mod load;
 
 use axi::plan::Plan;
-use axi::wires::{Beat, ReadBeat, WriteAnswer};
-use bridge::bridge::{Bridge, Tables};
-use engines::taken::{NO_ANSWER, NO_BEAT, NO_BURST, NO_READ_BEAT, Taken};
+use bridge::bridge::Bridge;
+use bridge::slots::Slots;
 use load::Load;
 
 /// The slots of each table.
@@ -20,19 +19,8 @@ const SLOTS: usize = 4;
 
 /// Drives a bridge of this plan for so many edges, and mixes the payloads that it shows and the counts of what crosses into one number.
 fn drive(plan: Plan, edges: u64, stalls: bool) -> u64 {
-    let mut write_bursts = [NO_BURST; SLOTS];
-    let mut data_beats = [NO_BEAT; SLOTS];
-    let mut write_answers = [NO_ANSWER; SLOTS];
-    let mut read_bursts = [NO_BURST; SLOTS];
-    let mut read_beats = [NO_READ_BEAT; SLOTS];
-    let tables = Tables {
-        write_bursts: &mut write_bursts,
-        data_beats: &mut data_beats,
-        write_answers: &mut write_answers,
-        read_bursts: &mut read_bursts,
-        read_beats: &mut read_beats,
-    };
-    let mut bridge = Bridge::new(plan, tables);
+    let mut slots: Slots<SLOTS> = Slots::new();
+    let mut bridge = Bridge::new(plan, slots.tables());
     let mut load = Load::new(stalls);
     for edge in 0..edges {
         load.step(&mut bridge, edge);
@@ -63,9 +51,5 @@ pub extern "C" fn traffic_bridge_bytes() -> usize {
 /// The bytes that the slots of its five tables take.
 #[unsafe(no_mangle)]
 pub extern "C" fn traffic_table_bytes() -> usize {
-    size_of::<[Taken; SLOTS]>()
-        + size_of::<[Beat; SLOTS]>()
-        + size_of::<[WriteAnswer; SLOTS]>()
-        + size_of::<[Taken; SLOTS]>()
-        + size_of::<[ReadBeat; SLOTS]>()
+    size_of::<Slots<SLOTS>>()
 }
