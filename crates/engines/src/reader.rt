@@ -50,13 +50,14 @@ impl Task<ReadAnswer> {
         let parts = self.taken().cut(plan, at);
         let task = Task {
             walk: rest,
-            verdict: self.verdict,
             sum: Collector::new(),
+            ..self
         };
         task.with_read_parts(plan, parts)
     }
 
     /// A beat is done: on with the next one, if there is one.
+    #[tactic(auto, using(crate::proofs::NextBeats::goes_on))]
     pub fn next_read_beat(self, plan: Plan) -> Reader
         ensures { reader_view plan result ≡ next_beat (pieces plan) (joining plan) (task_burst self) self.walk.count }
     {
@@ -98,6 +99,7 @@ pub struct ReaderWires {
 
 impl Reader {
     /// A burst is taken, and its first beat is cut into its parts.
+    #[tactic(auto, using(crate::proofs::NextBeats::begins))]
     pub fn begin(plan: Plan, taken: Taken) -> Reader
         ensures { reader_view plan result ≡ start_beat (pieces plan) (joining plan) taken taken.burst.len }
     {

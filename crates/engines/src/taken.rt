@@ -75,6 +75,7 @@ impl Taken {
 }
 
 /// The parts of a beat after the one at hand.
+#[tactic(auto, using(crate::proofs::NextParts::moved_on))]
 pub fn parts_after(plan: Plan, parts: Parts) -> Option<Parts>
     ensures { cursor_places plan result ≡ further plan parts.at parts.more }
 {

@@ -52,11 +52,7 @@ impl<R: Answer + Copy> Task<R> {
         ensures verdict { result.verdict ≡ self.verdict }
         ensures sum { task_sum result ≡ task_sum self }
     {
-        Task {
-            walk,
-            verdict: self.verdict,
-            sum: self.sum,
-        }
+        Task { walk, ..self }
     }
 
     /// The same burst with one more answer, joined behind those before it.
@@ -66,9 +62,8 @@ impl<R: Answer + Copy> Task<R> {
         ensures sum { task_sum result ≡ R.Answer.joined (task_sum self) answer }
     {
         Task {
-            walk: self.walk,
-            verdict: self.verdict,
             sum: self.sum.add(answer),
+            ..self
         }
     }
 
