@@ -84,13 +84,13 @@ impl<T: Drop> From<AllocFailed<T>> for Fault {
     }
 }
 
-impl Form {
+impl fmt::Display for Form {
     /// The words of a line of this form.
-    fn words(self) -> &'static str {
-        match self {
+    fn fmt<W: fmt::Write>(&self, f: &mut fmt::Formatter<W>) -> fmt::Result {
+        f.write_str(match self {
             Form::Bridge => "bridge U L level",
             Form::Burst => "ID ADDR LEN SIZE BURST LOCK CACHE PROT",
-        }
+        })
     }
 }
 
@@ -102,10 +102,12 @@ impl Field {
             _ => Form::Burst,
         }
     }
+}
 
-    /// Its name there.
-    fn name(self) -> &'static str {
-        match self {
+impl fmt::Display for Field {
+    /// Its name in that form.
+    fn fmt<W: fmt::Write>(&self, f: &mut fmt::Formatter<W>) -> fmt::Result {
+        f.write_str(match self {
             Field::Upper => "U",
             Field::Lower => "L",
             Field::Level => "level",
@@ -117,7 +119,7 @@ impl Field {
             Field::Lock => "LOCK",
             Field::Cache => "CACHE",
             Field::Prot => "PROT",
-        }
+        })
     }
 }
 
@@ -149,18 +151,21 @@ impl fmt::Display for Quoted {
 
 impl fmt::Display for BadNumber {
     fn fmt<W: fmt::Write>(&self, f: &mut fmt::Formatter<W>) -> fmt::Result {
-        let name = self.field.name();
+        let field = self.field;
         let largest = self.largest;
         match self.fault {
             NumberFault::Empty => write!(
                 f,
-                "{name} has no digit; expected words parted by exactly one space"
+                "{field} has no digit; expected words parted by exactly one space"
             ),
             NumberFault::NotADigit(byte) => {
                 let byte = Quoted(byte);
-                write!(f, "{name} has {byte}; expected hexadecimal digits 0-9 a-f")
+                write!(f, "{field} has {byte}; expected hexadecimal digits 0-9 a-f")
             }
-            NumberFault::TooLarge => write!(f, "{name} is too large; expected at most {largest:x}"),
+            NumberFault::TooLarge => write!(
+                f,
+                "{field} is too large; expected at most {largest:x}"
+            ),
         }
     }
 }
@@ -169,21 +174,16 @@ impl fmt::Display for Reason {
     fn fmt<W: fmt::Write>(&self, f: &mut fmt::Formatter<W>) -> fmt::Result {
         match *self {
             Reason::NoPlan => {
-                let words = Form::Bridge.words();
-                write!(f, "there is no plan yet; expected '{words}'")
+                let form = Form::Bridge;
+                write!(f, "there is no plan yet; expected '{form}'")
             }
             Reason::Unended => write!(f, "the line is not ended; expected byte 0a at its end"),
             Reason::Missing(field) => {
-                let name = field.name();
-                let words = field.form().words();
-                write!(f, "{name} is missing; expected '{words}'")
+                let form = field.form();
+                write!(f, "{field} is missing; expected '{form}'")
             }
             Reason::Surplus(form) => {
-                let words = form.words();
-                write!(
-                    f,
-                    "the line goes on after its last word; expected '{words}'"
-                )
+                write!(f, "the line goes on after its last word; expected '{form}'")
             }
             Reason::Number(bad) => write!(f, "{bad}"),
             Reason::Plan(refusal) => {

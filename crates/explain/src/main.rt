@@ -10,10 +10,9 @@ mod show;
 #[cfg(test)]
 mod tests;
 
-ghost use Rattle.std.specs.Prelude.{◌≡◌, MatchResult};
-ghost use Rattle.std.specs.Process.{exit_status};
-
-use failure::Failure;
+use command::failure::Failure;
+use command::status::status;
+use failure::Refusal;
 use parse::read_items;
 use std::io::Read;
 use std::process::ExitCode;
@@ -37,11 +36,8 @@ the end. In the output IDs and addresses are hexadecimal, other numbers decimal.
 ";
 
 /// All bytes of the file at this path.
-fn read_file(rt: &HostRuntime, path: String) -> Result<Vec<u8>, Failure> {
-    match fs::read(rt, path.as_str()) {
-        Ok(text) => Ok(text),
-        Err(error) => Err(Failure::Unreadable(path, error)),
-    }
+fn read_file(rt: &HostRuntime, path: String) -> Result<Vec<u8>, Failure<Refusal>> {
+    fs::read(rt, path.as_str()).map_err(|error| Failure::Unreadable(path, error))
 }
 
 /// All bytes of standard input.
@@ -52,7 +48,7 @@ fn read_stdin(rt: &HostRuntime) -> io::Result<Vec<u8>> {
 }
 
 /// Prints what the input comes to. All of it is read before the first line is printed.
-fn explain(rt: &HostRuntime, text: &[u8]) -> Result<(), Failure> {
+fn explain(rt: &HostRuntime, text: &[u8]) -> Result<(), Failure<Refusal>> {
     let items = read_items(rt.alloc(), text)?;
     for item in items {
         rt.print(item)?;
@@ -61,11 +57,11 @@ fn explain(rt: &HostRuntime, text: &[u8]) -> Result<(), Failure> {
 }
 
 /// Does what the arguments ask for.
-fn run(rt: &HostRuntime) -> Result<(), Failure> {
+fn run(rt: &HostRuntime) -> Result<(), Failure<Refusal>> {
     let mut args = env::args(rt)?.skip(1);
     let first = args.next();
     if args.next().is_some() {
-        return Err(Failure::Usage);
+        return Err(Failure::Own(Refusal::Usage));
     }
     let text = match first {
         None => read_stdin(rt)?,
@@ -76,16 +72,6 @@ fn run(rt: &HostRuntime) -> Result<(), Failure> {
         Some(path) => read_file(rt, path)?,
     };
     explain(rt, text.as_slice())
-}
-
-/// The status that the program ends with: 0, or 1 where it fails.
-fn status(outcome: &Result<(), Failure>) -> ExitCode
-    ensures { MatchResult outcome.now (λ _. exit_status result ≡ 0) (λ _. exit_status result ≡ 1) }
-{
-    match outcome {
-        Ok(()) => ExitCode::SUCCESS,
-        Err(_) => ExitCode::FAILURE,
-    }
 }
 
 fn main(rt: HostRuntime) -> ExitCode {

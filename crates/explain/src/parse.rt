@@ -1,5 +1,7 @@
 //! The input's lines, read into plans and bursts.
-ghost use Rattle.std.specs.Prelude.{◌≡◌, ℕ, ◌+◌, ◌<◌, ◌≤◌, true, false, ◌∷◌, ◌++◌, length, IfOk, Some, None, MatchOption, MatchResult};
+ghost use Rattle.std.specs.Prelude.{◌≡◌, ℕ, ◌+◌, ◌<◌, ◌≤◌, ◌==◌, true, false, ◌∷◌, ◌++◌, length, position, IfOk, Some, None, MatchOption, MatchResult};
+ghost use Rattle.std.specs.Iterator.{at_most};
+ghost use Rattle.std.specs.Option.{option_map_or};
 ghost use Rattle.axi.specs.Bursts.{burst_fits};
 ghost use Rattle.axi.specs.Plans.{upper_bytes, lower_bytes, level_number, refused_plan};
 ghost use Rattle.axi.specs.declared.plan.PlanRefusal.{PlanRefusal};
@@ -29,16 +31,19 @@ impl Item {
     }
 }
 
+/// The place of the first `mark`.
+fn place(bytes: &[u8], mark: u8) -> Option<usize>
+    ensures { result ≡ position (λ byte. byte == mark) bytes.now }
+{
+    bytes.iter().position(|byte| *byte == mark)
+}
+
 /// The bytes before the first `mark` and those after it, where there is one.
 fn cut(bytes: &[u8], mark: u8) -> Option<(&[u8], &[u8])>
     ensures { MatchOption result (Free mark bytes.now) (λ p. Free mark p.0.now × (bytes.now ≡ p.0.now ++ mark ∷ p.1.now) × (length p.0.now + length p.1.now < length bytes.now)) }
 {
-    for (i, byte) in bytes.iter().enumerate() {
-        if *byte == mark {
-            return Some((&bytes[0..i], &bytes[i + 1..]));
-        }
-    }
-    None
+    let i = place(bytes, mark)?;
+    Some((&bytes[0..i], &bytes[i + 1..]))
 }
 
 /// The words of a line that are still to be read. None are left behind the last one.
@@ -47,11 +52,10 @@ struct Words<'a> {
     rest: Option<&'a [u8]>,
 }
 
-impl<'a> Words<'a> {
-    /// All words of a line.
-    fn of(line: &'a [u8]) -> Words<'a> {
-        Words { rest: Some(line) }
-    }
+impl<'a> Iterator for Words<'a> {
+    type Item = &'a [u8];
+
+    ghost remaining = { λ s. at_most (option_map_or (λ (r : _). length r.now + 1) s.rest 0) };
 
     /// The next word, up to a space or the line's end.
     fn next(&mut self) -> Option<&'a [u8]> {
@@ -67,22 +71,26 @@ impl<'a> Words<'a> {
             }
         }
     }
+}
+
+impl<'a> Words<'a> {
+    /// All words of a line.
+    fn of(line: &'a [u8]) -> Words<'a> {
+        Words { rest: Some(line) }
+    }
 
     /// The next word as a number that is at most `largest`.
     fn number(&mut self, field: Field, largest: u32) -> Result<u32, Reason>
         ensures { IfOk result (λ v. v ≤ largest) }
     {
-        let Some(word) = self.next() else {
-            return Err(Reason::Missing(field));
-        };
-        match number(word, largest) {
-            Ok(value) => Ok(value),
-            Err(fault) => Err(Reason::Number(BadNumber {
+        let word = self.next().ok_or(Reason::Missing(field))?;
+        number(word, largest).map_err(|fault| {
+            Reason::Number(BadNumber {
                 field,
                 largest,
                 fault,
-            })),
-        }
+            })
+        })
     }
 
     /// The next word as a number of 8 bits.
@@ -91,8 +99,8 @@ impl<'a> Words<'a> {
     }
 
     /// Nothing, where no word is left.
-    fn end(self, form: Form) -> Result<(), Reason> {
-        match self.rest {
+    fn end(mut self, form: Form) -> Result<(), Reason> {
+        match self.next() {
             Some(_) => Err(Reason::Surplus(form)),
             None => Ok(()),
         }
@@ -112,10 +120,7 @@ fn read_plan(mut words: Words) -> Result<Plan, Reason> {
 fn checked_plan(upper: u8, lower: u8, level: u8) -> Result<Plan, Reason>
     ensures { MatchResult result (λ p. (refused_plan upper lower level ≡ None) × (upper_bytes p ≡ upper) × (lower_bytes p ≡ lower) × (level_number p.level ≡ level)) (λ e. (x : PlanRefusal) × (e ≡ Reason.Plan x) × (refused_plan upper lower level ≡ Some x)) }
 {
-    match Plan::new(upper, lower, level) {
-        Ok(plan) => Ok(plan),
-        Err(refusal) => Err(Reason::Plan(refusal)),
-    }
+    Plan::new(upper, lower, level).map_err(Reason::Plan)
 }
 
 /// The burst of a line.
@@ -156,12 +161,11 @@ fn behind_keyword(line: &[u8]) -> Option<Words> {
 
 /// What a line says, under the plan in force.
 fn read_line(plan: Option<Plan>, line: &[u8]) -> Result<Item, Reason> {
+    let line = line.strip_suffix(b"\n").ok_or(Reason::Unended)?;
     if let Some(words) = behind_keyword(line) {
         return Ok(Item::Bridge(read_plan(words)?));
     }
-    let Some(plan) = plan else {
-        return Err(Reason::NoPlan);
-    };
+    let plan = plan.ok_or(Reason::NoPlan)?;
     Ok(Item::Burst(plan, read_burst(Words::of(line))?))
 }
 
@@ -169,23 +173,13 @@ fn read_line(plan: Option<Plan>, line: &[u8]) -> Result<Item, Reason> {
 pub fn read_items(heap: Global, text: &[u8]) -> Result<Vec<Item>, Fault> {
     let mut items = Vec::new(heap);
     let mut plan = None;
-    let mut rest = text;
-    let mut line = 1;
-    while !rest.is_empty() {
-        let Some((bytes, after)) = cut(rest, b'\n') else {
-            return Err(Fault::Line(line, Reason::Unended));
-        };
-        let item = match read_line(plan, bytes) {
-            Ok(item) => item,
-            Err(reason) => return Err(Fault::Line(line, reason)),
-        };
-        items.push(item)?;
+    for (number, line) in (1..).zip(text.split_inclusive(|byte| *byte == b'\n')) {
+        let item = read_line(plan, line).map_err(|reason| Fault::Line(number, reason))?;
         plan = Some(item.plan());
-        rest = after;
-        line += 1;
+        items.push(item)?;
     }
     if items.is_empty() {
-        return Err(Fault::Line(line, Reason::NoPlan));
+        return Err(Fault::Line(1, Reason::NoPlan));
     }
     Ok(items)
 }

@@ -2,6 +2,9 @@
 ghost use Rattle.std.specs.Prelude.{◌≡◌, ◌+◌};
 ghost use Rattle.parts.specs.Lanes.{lane};
 ghost use Rattle.axi.specs.Plans.{lower_bytes};
+ghost use Rattle.parts.specs.declared.cut.Parts.{Parts};
+ghost use Rattle.std.specs.Iterator.{at_most};
+ghost use Rattle.std.specs.Option.{option_map_or};
 
 use crate::parse::Item;
 use axi::burst::{Burst, Kind};
@@ -96,51 +99,108 @@ impl Lanes {
     }
 }
 
-/// A line for each part of a beat at this address.
-fn show_parts<W: fmt::Write>(
-    f: &mut fmt::Formatter<W>,
+/// The parts of a beat that are still to come.
+#[derive(Clone, Copy)]
+struct Coming {
+    plan: Plan,
+    next: Option<Parts>,
+}
+
+impl Iterator for Coming {
+    type Item = Parts;
+
+    ghost remaining = { λ s. at_most (option_map_or (λ (p : Parts). p.more + 1) s.next 0) };
+
+    fn next(&mut self) -> Option<Parts> {
+        let part = self.next?;
+        self.next = part.next(self.plan);
+        Some(part)
+    }
+}
+
+/// The addresses of the beats that are still to come.
+#[derive(Clone, Copy)]
+struct Beats {
+    walk: Walk,
+}
+
+impl Iterator for Beats {
+    type Item = u32;
+
+    ghost remaining = { λ s. at_most s.walk.count };
+
+    fn next(&mut self) -> Option<u32> {
+        if self.walk.is_empty() {
+            return None;
+        }
+        let (at, rest) = self.walk.next();
+        self.walk = rest;
+        Some(at)
+    }
+}
+
+/// A burst under the plan in force.
+#[derive(Clone, Copy)]
+struct Planned {
     plan: Plan,
     burst: Burst,
-    at: u32,
-) -> fmt::Result {
-    let mut next = Some(Parts::of(plan, burst, at));
-    while let Some(part) = next {
-        let at = part.at;
-        let Lanes { first, last } = Lanes::of(plan, at);
-        writeln!(f, "    part {at:x} lanes {first}-{last}")?;
-        next = part.next(plan);
-    }
-    Ok(())
 }
 
-/// The lines of each beat of a burst.
-fn show_beats<W: fmt::Write>(f: &mut fmt::Formatter<W>, plan: Plan, burst: Burst) -> fmt::Result {
-    let mut walk = Walk::new(burst);
-    for number in 0..burst.beats() {
-        let (at, rest) = walk.next();
-        writeln!(f, "  beat {number} at {at:x}")?;
-        show_parts(f, plan, burst, at)?;
-        walk = rest;
+impl Planned {
+    /// The addresses of the burst's beats.
+    fn beats(self) -> Beats {
+        Beats {
+            walk: Walk::new(self.burst),
+        }
     }
-    Ok(())
+
+    /// The parts of a beat at this address.
+    fn parts(self, at: u32) -> Coming {
+        Coming {
+            plan: self.plan,
+            next: Some(Parts::of(self.plan, self.burst, at)),
+        }
+    }
+
+    /// A line for each part of a beat at this address.
+    fn show_parts<W: fmt::Write>(self, f: &mut fmt::Formatter<W>, at: u32) -> fmt::Result {
+        for part in self.parts(at) {
+            let at = part.at;
+            let Lanes { first, last } = Lanes::of(self.plan, at);
+            writeln!(f, "    part {at:x} lanes {first}-{last}")?;
+        }
+        Ok(())
+    }
+
+    /// The lines of each beat.
+    fn show_beats<W: fmt::Write>(self, f: &mut fmt::Formatter<W>) -> fmt::Result {
+        for (number, at) in self.beats().enumerate() {
+            writeln!(f, "  beat {number} at {at:x}")?;
+            self.show_parts(f, at)?;
+        }
+        Ok(())
+    }
 }
 
-/// The lines of a burst: what it is, the verdicts, and its beats where it goes down.
-fn show_burst<W: fmt::Write>(f: &mut fmt::Formatter<W>, plan: Plan, burst: Burst) -> fmt::Result {
-    let id = burst.id;
-    let addr = burst.addr;
-    let beats = Count(burst.beats(), "beat");
-    let bytes = Count(burst.bytes(), "byte");
-    let kind = kind_words(burst.kind());
-    writeln!(f, "burst {id:x} at {addr:x}: {beats} of {bytes}, {kind}")?;
-    let verdict = plan.judge(burst);
-    let here = Ruling(verdict);
-    let protected = Ruling(plan.judge_protected(burst));
-    writeln!(f, "  verdict {here}; at full protection {protected}")?;
-    if verdict.is_forwarded() {
-        show_beats(f, plan, burst)
-    } else {
-        writeln!(f, "  refused, nothing goes down")
+impl fmt::Display for Planned {
+    /// What the burst is, the verdicts, and its beats where it goes down.
+    fn fmt<W: fmt::Write>(&self, f: &mut fmt::Formatter<W>) -> fmt::Result {
+        let Planned { plan, burst } = *self;
+        let id = burst.id;
+        let addr = burst.addr;
+        let beats = Count(burst.beats(), "beat");
+        let bytes = Count(burst.bytes(), "byte");
+        let kind = kind_words(burst.kind());
+        writeln!(f, "burst {id:x} at {addr:x}: {beats} of {bytes}, {kind}")?;
+        let verdict = plan.judge(burst);
+        let here = Ruling(verdict);
+        let protected = Ruling(plan.judge_protected(burst));
+        writeln!(f, "  verdict {here}; at full protection {protected}")?;
+        if verdict.is_forwarded() {
+            self.show_beats(f)
+        } else {
+            writeln!(f, "  refused, nothing goes down")
+        }
     }
 }
 
@@ -160,7 +220,7 @@ impl fmt::Display for Item {
     fn fmt<W: fmt::Write>(&self, f: &mut fmt::Formatter<W>) -> fmt::Result {
         match *self {
             Item::Bridge(plan) => show_plan(f, plan),
-            Item::Burst(plan, burst) => show_burst(f, plan, burst),
+            Item::Burst(plan, burst) => write!(f, "{}", Planned { plan, burst }),
         }
     }
 }

@@ -1,6 +1,6 @@
 //! The register block below: 65 words from the page's first address on, with stalls in a fixed pattern on each of its five channels.
 use crate::firmware::{LOCKED, PAGE, WORDS, page_word};
-use axi::wires::{Beat, LowerRead, Outputs, Place};
+use axi::wires::{Beat, Outputs, Place};
 use bridge::report::Crossed;
 
 /// The words held, and the transfers under way.
@@ -13,22 +13,9 @@ pub struct Block {
     read: Option<u32>,
 }
 
-/// The bits of a word that its strobes name.
+/// The bits of a word that its strobes name: those of byte 0 by bit 0, and so on.
 fn mask(strobes: u8) -> u32 {
-    let mut bits = 0;
-    if strobes & 1 != 0 {
-        bits |= 0xff;
-    }
-    if strobes & 2 != 0 {
-        bits |= 0xff00;
-    }
-    if strobes & 4 != 0 {
-        bits |= 0x00ff_0000;
-    }
-    if strobes & 8 != 0 {
-        bits |= 0xff00_0000;
-    }
-    bits
+    u32::from_le_bytes([1, 2, 4, 8].map(|strobe| if strobes & strobe == 0 { 0 } else { 0xff }))
 }
 
 impl Block {
@@ -63,17 +50,9 @@ impl Block {
         self.read.is_none() && edge % 4 != 3
     }
 
-    /// LRVALID: a word is to be given, but for the stalls.
-    pub fn lrvalid(&self, edge: u32) -> bool {
-        self.read.is_some() && edge % 6 != 5
-    }
-
-    /// What LR carries.
-    pub fn lr(&self) -> LowerRead {
-        LowerRead {
-            lrdata: self.read.unwrap_or(0) as u64,
-            lrresp: 0,
-        }
+    /// The word that LR offers: one that is to be given, but for the stalls.
+    pub fn lr(&self, edge: u32) -> Option<u32> {
+        self.read.filter(|_| edge % 6 != 5)
     }
 
     /// The index of the word at an address, past the last for an address outside.
@@ -101,41 +80,41 @@ impl Block {
         self.write();
     }
 
-    /// The word at an address.
+    /// The word at an address, 0 outside.
     fn word(&self, addr: u32) -> u32 {
-        let i = Block::index(addr);
-        if i < 65 { self.words[i] } else { 0 }
+        self.words.get(Block::index(addr)).copied().unwrap_or(0)
     }
 
     /// A write acts once its address and its data are there.
     fn write(&mut self) {
         if let (Some(place), Some(beat)) = (self.address, self.data) {
-            let i = Block::index(place.addr);
-            if i < 65 {
-                let old = self.words[i];
-                let bits = mask(beat.wstrb);
-                self.words[i] = (old & !bits) | ((beat.wdata & 0xffff_ffff) as u32 & bits);
-            }
+            self.put(place.addr, beat);
             self.address = None;
             self.data = None;
             self.written = true;
         }
     }
 
-    /// How many words of the page are not as the firmware wrote them.
-    fn differences(&self) -> u32 {
-        let mut count = 0u32;
-        for i in 0..WORDS {
-            if self.words[i as usize] != page_word(i) {
-                count = count.saturating_add(1);
-            }
+    /// Writes the bytes of the word at an address that the strobes name, none outside.
+    fn put(&mut self, addr: u32, beat: Beat) {
+        if let Some(word) = self.words.get_mut(Block::index(addr)) {
+            let bits = mask(beat.wstrb);
+            let new = (beat.wdata & 0xffff_ffff) as u32;
+            *word = (*word & !bits) | (new & bits);
         }
-        count
+    }
+
+    /// Whether the words of the page are as the firmware wrote them.
+    fn holds_page(&self) -> bool {
+        self.words[..64]
+            .iter()
+            .copied()
+            .eq((0..WORDS).map(page_word))
     }
 
     /// Whether it holds the page and the lock.
     pub fn verdict(&self) -> &'static str {
-        if self.differences() != 0 {
+        if !self.holds_page() {
             "the block does not hold the page"
         } else if self.words[64] != LOCKED {
             "the block holds the page, not locked"

@@ -33,11 +33,13 @@ enum Job {
     Done,
 }
 
-/// Where the firmware stands: the job, whether its burst has crossed, and how many of its beats have.
+/// Where the firmware stands.
 #[derive(Clone, Copy)]
 pub struct Firmware {
     job: Job,
-    sent: bool,
+    /// The job's burst, until it has crossed.
+    offer: Option<Burst>,
+    /// How many of its beats have crossed.
     beats: u32,
     wrong: u32,
 }
@@ -54,6 +56,23 @@ fn burst(id: u16, addr: u32, len: u8) -> Burst {
         cache: 0,
         prot: 0,
     }
+}
+
+impl Job {
+    /// The burst of a job.
+    fn burst(self) -> Option<Burst> {
+        match self {
+            Job::Page => Some(burst(1, PAGE, 63)),
+            Job::Lock => Some(burst(2, LOCK, 0)),
+            Job::Read => Some(burst(3, PAGE, 63)),
+            Job::Done => None,
+        }
+    }
+}
+
+/// The address of word `i` of the page.
+fn page_address(i: u32) -> u32 {
+    PAGE.wrapping_add(i.wrapping_mul(4))
 }
 
 /// A word on the lanes of its address.
@@ -82,7 +101,7 @@ impl Firmware {
     pub fn new() -> Firmware {
         Firmware {
             job: Job::Page,
-            sent: false,
+            offer: Job::Page.burst(),
             beats: 0,
             wrong: 0,
         }
@@ -93,51 +112,38 @@ impl Firmware {
         matches!(self.job, Job::Done)
     }
 
-    /// Whether a write burst is on offer.
-    pub fn awvalid(&self) -> bool {
-        matches!(self.job, Job::Page | Job::Lock) && !self.sent
-    }
-
     /// The write burst on offer.
-    pub fn aw(&self) -> Burst {
+    pub fn aw(&self) -> Option<Burst> {
         match self.job {
-            Job::Lock => burst(2, LOCK, 0),
-            _ => burst(1, PAGE, 63),
-        }
-    }
-
-    /// Whether a data beat is on offer.
-    pub fn wvalid(&self) -> bool {
-        match self.job {
-            Job::Page => self.beats < WORDS,
-            Job::Lock => self.beats < 1,
-            _ => false,
+            Job::Page | Job::Lock => self.offer,
+            Job::Read | Job::Done => None,
         }
     }
 
     /// The data beat on offer.
-    pub fn w(&self) -> Beat {
-        let offset = self.beats.wrapping_mul(4);
+    pub fn w(&self) -> Option<Beat> {
         match self.job {
-            Job::Lock => on_lanes(LOCK, LOCKED),
-            _ => on_lanes(PAGE.wrapping_add(offset), page_word(self.beats)),
+            Job::Page if self.beats < WORDS => Some(on_lanes(
+                page_address(self.beats),
+                page_word(self.beats),
+            )),
+            Job::Lock if self.beats < 1 => Some(on_lanes(LOCK, LOCKED)),
+            _ => None,
         }
     }
 
-    /// Whether a read burst is on offer.
-    pub fn arvalid(&self) -> bool {
-        matches!(self.job, Job::Read) && !self.sent
-    }
-
     /// The read burst on offer.
-    pub fn ar(&self) -> Burst {
-        burst(3, PAGE, 63)
+    pub fn ar(&self) -> Option<Burst> {
+        match self.job {
+            Job::Read => self.offer,
+            _ => None,
+        }
     }
 
     /// Goes on by what crossed.
     pub fn see(&mut self, crossed: &Crossed, o: &Outputs) {
         if crossed.aw || crossed.ar {
-            self.sent = true;
+            self.offer = None;
         }
         if crossed.w {
             self.beats = self.beats.saturating_add(1);
@@ -155,23 +161,28 @@ impl Firmware {
         if !matches!(code, Code::Okay) {
             self.wrong = self.wrong.saturating_add(1);
         }
-        self.sent = false;
-        self.beats = 0;
-        self.job = match self.job {
+        let next = match self.job {
             Job::Page => Job::Lock,
             _ => Job::Read,
         };
+        self.begin(next);
+    }
+
+    /// Begins a job.
+    fn begin(&mut self, job: Job) {
+        self.job = job;
+        self.offer = job.burst();
+        self.beats = 0;
     }
 
     /// A read beat is held against the page.
     fn compare(&mut self, rdata: u64, last: bool) {
-        let offset = self.beats.wrapping_mul(4);
-        if from_lanes(PAGE.wrapping_add(offset), rdata) != page_word(self.beats) {
+        if from_lanes(page_address(self.beats), rdata) != page_word(self.beats) {
             self.wrong = self.wrong.saturating_add(1);
         }
         self.beats = self.beats.saturating_add(1);
         if last {
-            self.job = Job::Done;
+            self.begin(Job::Done);
         }
     }
 

@@ -7,7 +7,7 @@ mod firmware;
 
 use anyhow::anyhow;
 use axi::plan::Plan;
-use axi::wires::{Inputs, Outputs};
+use axi::wires::{Inputs, LowerRead, Outputs};
 use block::Block;
 use bridge::bridge::Bridge;
 use bridge::slots::Slots;
@@ -18,47 +18,78 @@ use transcript::crossing::{crossings, print_edge};
 /// More edges than the run takes.
 const LIMIT: u32 = 4000;
 
-/// What the firmware and the block drive on an edge.
-fn inputs(firmware: &Firmware, block: &Block, edge: u32) -> Inputs {
-    Inputs {
-        aresetn: true,
-        awvalid: firmware.awvalid(),
-        aw: firmware.aw(),
-        wvalid: firmware.wvalid(),
-        w: firmware.w(),
-        bready: true,
-        arvalid: firmware.arvalid(),
-        ar: firmware.ar(),
-        rready: true,
-        lawready: block.lawready(edge),
-        lwready: block.lwready(edge),
-        lbvalid: block.lbvalid(edge),
-        lbresp: 0,
-        larready: block.larready(edge),
-        lrvalid: block.lrvalid(edge),
-        lr: block.lr(),
-    }
+/// The bridge between the firmware above and the block below.
+#[derive(Drop)]
+struct Bench<'a> {
+    bridge: Bridge<'a>,
+    firmware: Firmware,
+    block: Block,
 }
 
-/// One edge: what crosses is printed, and the firmware and the block go on by it.
-fn step(
-    rt: &HostRuntime,
-    bridge: &mut Bridge,
-    firmware: &mut Firmware,
-    block: &mut Block,
-    edge: u32,
-) -> anyhow::Result<()> {
-    let o: Outputs = bridge.wires();
-    let x = inputs(firmware, block, edge);
-    let Ok(report) = bridge.edge(&x) else {
-        return Err(anyhow!("the bridge refused an edge"));
-    };
-    let mut lines = Vec::new(rt.alloc());
-    print_edge(&mut lines, u64::from(edge), &crossings(&report, &x, &o))?;
-    rt.stdout().write_all(lines.as_slice())?;
-    firmware.see(&report.crossed, &o);
-    block.see(&report.crossed, &o);
-    Ok(())
+impl<'a> Bench<'a> {
+    /// All three before the first edge.
+    fn new(bridge: Bridge<'a>) -> Bench<'a> {
+        Bench {
+            bridge,
+            firmware: Firmware::new(),
+            block: Block::new(),
+        }
+    }
+
+    /// What the firmware and the block drive on an edge.
+    fn inputs(&self, edge: u32) -> Inputs {
+        let aw = self.firmware.aw();
+        let w = self.firmware.w();
+        let ar = self.firmware.ar();
+        let lr = self.block.lr(edge);
+        Inputs {
+            aresetn: true,
+            awvalid: aw.is_some(),
+            aw: aw.unwrap_or_default(),
+            wvalid: w.is_some(),
+            w: w.unwrap_or_default(),
+            bready: true,
+            arvalid: ar.is_some(),
+            ar: ar.unwrap_or_default(),
+            rready: true,
+            lawready: self.block.lawready(edge),
+            lwready: self.block.lwready(edge),
+            lbvalid: self.block.lbvalid(edge),
+            lbresp: 0,
+            larready: self.block.larready(edge),
+            lrvalid: lr.is_some(),
+            lr: LowerRead {
+                lrdata: u64::from(lr.unwrap_or(0)),
+                lrresp: 0,
+            },
+        }
+    }
+
+    /// One edge: what crosses is printed, and the firmware and the block go on by it.
+    fn step(&mut self, rt: &HostRuntime, edge: u32) -> anyhow::Result<()> {
+        let o: Outputs = self.bridge.wires();
+        let x = self.inputs(edge);
+        let Ok(report) = self.bridge.edge(&x) else {
+            return Err(anyhow!("the bridge refused an edge"));
+        };
+        let mut lines = Vec::new(rt.alloc());
+        print_edge(&mut lines, u64::from(edge), &crossings(&report, &x, &o))?;
+        rt.stdout().write_all(lines.as_slice())?;
+        self.firmware.see(&report.crossed, &o);
+        self.block.see(&report.crossed, &o);
+        Ok(())
+    }
+
+    /// All edges until the firmware is done: how many they are.
+    fn run(&mut self, rt: &HostRuntime) -> anyhow::Result<u32> {
+        for edge in 0..LIMIT {
+            if self.firmware.is_done() {
+                return Ok(edge);
+            }
+            self.step(rt, edge)?;
+        }
+        Ok(LIMIT)
+    }
 }
 
 /// The whole run.
@@ -67,24 +98,15 @@ fn run(rt: &HostRuntime) -> anyhow::Result<()> {
         return Err(anyhow!("no such plan"));
     };
     let mut slots: Slots<4> = Slots::new();
-    let mut bridge = Bridge::new(plan, slots.tables());
-    let mut firmware = Firmware::new();
-    let mut block = Block::new();
-    let mut edges = 0;
-    for edge in 0..LIMIT {
-        if firmware.is_done() {
-            break;
-        }
-        step(rt, &mut bridge, &mut firmware, &mut block, edge)?;
-        edges = edge + 1;
-    }
-    let owed = bridge.owed();
+    let mut bench = Bench::new(Bridge::new(plan, slots.tables()));
+    let edges = bench.run(rt)?;
+    let owed = bench.bridge.owed();
     println!(rt;
         "owed {} writes, {} reads after {edges} edges",
         owed.writes, owed.reads
     )?;
-    println!(rt; "{}", block.verdict())?;
-    println!(rt; "{}", firmware.verdict())?;
+    println!(rt; "{}", bench.block.verdict())?;
+    println!(rt; "{}", bench.firmware.verdict())?;
     Ok(())
 }
 

@@ -4,10 +4,11 @@
 
 mod failure;
 
-ghost use Rattle.std.specs.Prelude.{◌≡◌, ◌≤◌, length, IfOk, MatchResult};
-ghost use Rattle.std.specs.Process.{exit_status};
+ghost use Rattle.std.specs.Prelude.{◌≤◌, length, IfOk};
 
-use failure::Failure;
+use command::failure::Failure;
+use command::status::status;
+use failure::Stop;
 use playback::play::play;
 use std::io::{Read, Write};
 use std::process::ExitCode;
@@ -31,9 +32,10 @@ const VERSION: &str = "player 1.0.0\n";
 /// One byte more than a script may have, to notice a script that is too long.
 const ROOM: usize = 16_385;
 
-/// Reads until the input ends or the buffer is full, and answers how many bytes it read.
-fn fill<R: Read>(input: &mut R, buffer: &mut [u8; ROOM]) -> io::Result<usize>
-    ensures { IfOk result (λ n. n ≤ 16385) }
+/// Reads until the input ends or the buffer is full, and answers what it read.
+// One array on the stack, with a count of the bytes read: a player has no heap for its input.
+fn fill<'a, R: Read>(input: &mut R, buffer: &'a mut [u8; ROOM]) -> io::Result<&'a [u8]>
+    ensures { IfOk result (λ read. length read.now ≤ 16385) }
 {
     let mut len = 0;
     while len < ROOM {
@@ -43,45 +45,45 @@ fn fill<R: Read>(input: &mut R, buffer: &mut [u8; ROOM]) -> io::Result<usize>
         }
         len += n;
     }
-    Ok(len)
+    Ok(&buffer[0..len])
 }
 
 /// Reads the file of this name.
-fn fill_from(rt: &HostRuntime, path: &str, buffer: &mut [u8; ROOM]) -> io::Result<usize>
-    ensures { IfOk result (λ n. n ≤ 16385) }
+fn fill_from<'a>(rt: &HostRuntime, path: &str, buffer: &'a mut [u8; ROOM]) -> io::Result<&'a [u8]>
+    ensures { IfOk result (λ read. length read.now ≤ 16385) }
 {
     let mut file = fs::open(rt, path)?;
     fill(&mut file, buffer)
 }
 
 /// Plays a script and prints its transcript.
-fn print(rt: &HostRuntime, script: &[u8]) -> Result<(), Failure> {
+fn print(rt: &HostRuntime, script: &[u8]) -> Result<(), Failure<Stop>> {
     let transcript = play(rt.alloc(), script)?;
     rt.stdout().write_all(transcript.bytes.as_slice())?;
     match transcript.ending {
         Ending::Owed(_) => Ok(()),
-        Ending::Fault(_) => Err(Failure::Fault),
+        Ending::Fault(_) => Err(Failure::Own(Stop::Fault)),
     }
 }
 
 /// Plays the script in the file of this name.
-fn play_file(rt: &HostRuntime, path: String) -> Result<(), Failure> {
+fn play_file(rt: &HostRuntime, path: String) -> Result<(), Failure<Stop>> {
     let mut buffer = [0u8; ROOM];
-    match fill_from(rt, path.as_str(), &mut buffer) {
-        Ok(len) => print(rt, &buffer[0..len]),
-        Err(error) => Err(Failure::Unreadable(path, error)),
-    }
+    let script = fill_from(rt, path.as_str(), &mut buffer).map_err(|error| Failure::Unreadable(
+        path, error,
+    ))?;
+    print(rt, script)
 }
 
 /// Plays the script on standard input.
-fn play_stdin(rt: &HostRuntime) -> Result<(), Failure> {
+fn play_stdin(rt: &HostRuntime) -> Result<(), Failure<Stop>> {
     let mut buffer = [0u8; ROOM];
-    let len = fill(&mut rt.stdin(), &mut buffer)?;
-    print(rt, &buffer[0..len])
+    let script = fill(&mut rt.stdin(), &mut buffer)?;
+    print(rt, script)
 }
 
 /// Does what the arguments ask for.
-fn run(rt: &HostRuntime) -> Result<(), Failure> {
+fn run(rt: &HostRuntime) -> Result<(), Failure<Stop>> {
     match env::args(rt)?.nth(1) {
         None => play_stdin(rt),
         Some(arg) if arg.as_str() == "--help" => {
@@ -96,20 +98,10 @@ fn run(rt: &HostRuntime) -> Result<(), Failure> {
     }
 }
 
-/// The status that the program ends with: 0, or 1 where it fails.
-fn status(outcome: &Result<(), Failure>) -> ExitCode
-    ensures { MatchResult outcome.now (λ _. exit_status result ≡ 0) (λ _. exit_status result ≡ 1) }
-{
-    match outcome {
-        Ok(()) => ExitCode::SUCCESS,
-        Err(_) => ExitCode::FAILURE,
-    }
-}
-
 fn main(rt: HostRuntime) -> ExitCode {
     let outcome = run(&rt);
     if let Err(failure) = &outcome {
-        if !matches!(failure, Failure::Fault) {
+        if !matches!(failure, Failure::Own(Stop::Fault)) {
             let _ = eprintln!(rt; "player: {failure}");
         }
     }

@@ -4,8 +4,8 @@
 
 mod pack;
 
-use anyhow::anyhow;
-use pack::{Case, Pack};
+use anyhow::ensure;
+use pack::{Case, Malformed, Pack};
 use playback::play::play;
 use std::io::{Read, Write};
 use std::{env, fs, io};
@@ -28,11 +28,24 @@ The exit status is 0 if all transcripts are as stored, else 1.
 ";
 
 /// The scripts played so far.
-#[derive(Clone, Copy)]
+#[derive(Clone, Copy, Default)]
 struct Tally {
     scripts: u64,
     /// Those whose transcript is the one that is stored.
     as_stored: u64,
+}
+
+impl Tally {
+    /// Whether each transcript so far is the one that is stored.
+    fn is_clean(&self) -> bool {
+        self.scripts == self.as_stored
+    }
+
+    /// Counts one more script.
+    fn count(&mut self, as_stored: bool) {
+        self.scripts = self.scripts.saturating_add(1);
+        self.as_stored = self.as_stored.saturating_add(u64::from(as_stored));
+    }
 }
 
 /// Prints bytes under a title.
@@ -53,37 +66,38 @@ fn print_difference(rt: &HostRuntime, number: u64, case: &Case, played: &[u8]) -
 fn try_case(rt: &HostRuntime, tally: &mut Tally, case: &Case) -> anyhow::Result<()> {
     let transcript = play(rt.alloc(), case.script)?;
     let played = transcript.bytes.as_slice();
-    if played == case.stored {
-        tally.as_stored = tally.as_stored.saturating_add(1);
-    } else if tally.as_stored == tally.scripts {
+    let as_stored = played == case.stored;
+    if !as_stored && tally.is_clean() {
         print_difference(rt, tally.scripts, case, played)?;
     }
-    tally.scripts = tally.scripts.saturating_add(1);
+    tally.count(as_stored);
     Ok(())
+}
+
+/// Plays the scripts of a pack up to its end or to what is malformed.
+fn try_cases(
+    rt: &HostRuntime,
+    tally: &mut Tally,
+    pack: Pack,
+) -> anyhow::Result<Result<(), Malformed>> {
+    for item in pack {
+        match item {
+            Ok(case) => try_case(rt, tally, &case)?,
+            Err(malformed) => return Ok(Err(malformed)),
+        }
+    }
+    Ok(Ok(()))
 }
 
 /// Plays every script of a pack and prints how many came out as stored.
 fn try_all(rt: &HostRuntime, bytes: &[u8]) -> anyhow::Result<()> {
-    let mut tally = Tally {
-        scripts: 0,
-        as_stored: 0,
-    };
-    let mut sound = true;
-    for item in Pack::new(bytes) {
-        match item {
-            Ok(case) => try_case(rt, &mut tally, &case)?,
-            Err(_) => sound = false,
-        }
-    }
+    let mut tally = Tally::default();
+    let ending = try_cases(rt, &mut tally, Pack::new(bytes))?;
     let Tally { scripts, as_stored } = tally;
     println!(rt; "{scripts} scripts, {as_stored} as stored")?;
-    if !sound {
-        Err(anyhow!("what follows them is no script with its transcript"))
-    } else if scripts != as_stored {
-        Err(anyhow!("a transcript is not as stored"))
-    } else {
-        Ok(())
-    }
+    ending?;
+    ensure!(tally.is_clean(), "a transcript is not as stored");
+    Ok(())
 }
 
 /// All bytes of the file of this name, or of standard input.

@@ -2,6 +2,9 @@
 ghost use Rattle.std.specs.Prelude.{◌+◌, ◌<◌, length, IfSome};
 ghost use Rattle.std.specs.Iterator.{at_most};
 
+use std::error::Error;
+use std::fmt;
+
 /// A script and the transcript that is stored for it.
 #[derive(Clone, Copy)]
 pub struct Case<'a> {
@@ -10,8 +13,16 @@ pub struct Case<'a> {
 }
 
 /// What follows is no script with its transcript.
-#[derive(Clone, Copy)]
+#[derive(Clone, Copy, Debug)]
 pub struct Malformed;
+
+impl fmt::Display for Malformed {
+    fn fmt<W: fmt::Write>(&self, f: &mut fmt::Formatter<W>) -> fmt::Result {
+        f.write_str("what follows them is no script with its transcript")
+    }
+}
+
+impl Error for Malformed {}
 
 /// The cases of a pack that are still to be read, in its order.
 #[derive(Drop)]
@@ -71,18 +82,20 @@ fn piece<'a>(bytes: &'a [u8], name: &[u8]) -> Option<(&'a [u8], &'a [u8])>
 fn number(bytes: &[u8]) -> Option<(usize, &[u8])>
     ensures { IfSome result (λ p. length p.1.now < length bytes.now) }
 {
-    let mut value = 0usize;
-    for (i, byte) in bytes.iter().enumerate() {
-        match byte {
-            b'0'..=b'9' => value = append(value, *byte - b'0')?,
-            b'\n' if i > 0 => return Some((value, &bytes[i + 1..])),
-            _ => return None,
-        }
+    let end = bytes.iter().position(|byte| *byte == b'\n')?;
+    if end == 0 {
+        return None;
     }
-    None
+    let value = bytes[..end].iter().try_fold(0, append)?;
+    Some((value, &bytes[end + 1..]))
 }
 
 /// A number with one more digit, where it can be a length.
-fn append(value: usize, digit: u8) -> Option<usize> {
-    value.checked_mul(10)?.checked_add(digit as usize)
+fn append(value: usize, byte: &u8) -> Option<usize> {
+    match byte {
+        b'0'..=b'9' => value
+            .checked_mul(10)?
+            .checked_add(usize::from(*byte - b'0')),
+        _ => None,
+    }
 }
