@@ -7,23 +7,27 @@
 ghost use Rattle.axi.specs.Plans.{refused_plan};
 ghost use Rattle.std.specs.Prelude.{◌≡◌, ◌≢◌, None};
 
+mod gate;
 mod load;
 
 use axi::plan::Plan;
 use bridge::bridge::Bridge;
 use bridge::slots::Slots;
+use gate::{ALL, SEED, shifted};
 use load::Load;
 
 /// The slots of each table.
 const SLOTS: usize = 4;
 
-/// Drives a bridge of this plan for so many edges, and mixes the payloads that it shows and the counts of what crosses into one number.
-fn drive(plan: Plan, edges: u64, stalls: bool) -> u64 {
+/// Drives a bridge of this plan for so many edges under these gates, and mixes the payloads that it shows and the counts of what crosses into one number.
+fn drive(plan: Plan, edges: u64, gate: &mut dyn FnMut() -> u32) -> u64
+    requires { IsAlwaysCallable gate.now }
+{
     let mut slots: Slots<SLOTS> = Slots::new();
     let mut bridge = Bridge::new(plan, slots.tables());
-    let mut load = Load::new(stalls);
+    let mut load = Load::new();
     for edge in 0..edges {
-        load.step(&mut bridge, edge);
+        load.step(&mut bridge, gate(), edge);
     }
     load.sum()
 }
@@ -37,7 +41,18 @@ pub extern "C" fn traffic_sum(upper: u8, lower: u8, level: u8, edges: u64, stall
     ensures { refused_plan upper lower level ≢ None → result ≡ 0 }
 {
     match Plan::new(upper, lower, level) {
-        Ok(plan) => drive(plan, edges, stalls),
+        Ok(plan) if stalls => {
+            let mut noise = SEED;
+            drive(
+                plan,
+                edges,
+                &mut move || {
+                    noise = shifted(noise);
+                    noise | (noise >> 16)
+                },
+            )
+        }
+        Ok(plan) => drive(plan, edges, &mut || ALL),
         Err(_) => 0,
     }
 }

@@ -4,15 +4,9 @@ use axi::wires::{Beat, Inputs, LowerRead, Outputs};
 use bridge::bridge::Bridge;
 use bridge::report::Crossed;
 
-/// The gate of an edge on which every wire is high.
-const ALL: u32 = 0x3ff;
-
 /// Where the load stands.
 #[derive(Clone, Copy)]
 pub struct Load {
-    stalls: bool,
-    /// The state of the shift register behind the stalls.
-    noise: u32,
     /// The write bursts, read bursts and data beats that have crossed.
     writes: u32,
     reads: u32,
@@ -34,19 +28,10 @@ fn page(number: u32) -> Burst {
     }
 }
 
-/// The next state of a shift register that never repeats within 2^32 - 1 edges.
-fn shifted(noise: u32) -> u32 {
-    let a = noise ^ (noise << 13);
-    let b = a ^ (a >> 17);
-    b ^ (b << 5)
-}
-
 impl Load {
     /// The load before the first edge.
-    pub fn new(stalls: bool) -> Load {
+    pub fn new() -> Load {
         Load {
-            stalls,
-            noise: 0x2545_f491,
             writes: 0,
             reads: 0,
             beats: 0,
@@ -56,26 +41,16 @@ impl Load {
 
     /// All payloads shown so far and the counts of what crossed, mixed.
     pub fn sum(&self) -> u64 {
-        self.sum ^ self.beats ^ (self.writes as u64) << 24 ^ (self.reads as u64) << 44
+        self.sum ^ self.beats ^ u64::from(self.writes) << 24 ^ u64::from(self.reads) << 44
     }
 
-    /// One edge of the bridge under the load.
-    pub fn step(&mut self, bridge: &mut Bridge, edge: u64) {
-        let gate = self.gate();
+    /// One edge of the bridge under the load, where the gate has a bit for each wire that may be high.
+    pub fn step(&mut self, bridge: &mut Bridge, gate: u32, edge: u64) {
         let x = self.inputs(gate, edge);
         let shown = bridge.wires();
         if let Ok(report) = bridge.edge(&x) {
             self.see(&shown, &report.crossed);
         }
-    }
-
-    /// Which wires of the master and the block are high on the next edge: all, or each on 3 of 4 edges.
-    fn gate(&mut self) -> u32 {
-        if !self.stalls {
-            return ALL;
-        }
-        self.noise = shifted(self.noise);
-        self.noise | (self.noise >> 16)
     }
 
     /// The next data beat: four bytes, on the lower and the upper lanes by turns.
@@ -113,13 +88,13 @@ impl Load {
 
     /// Counts what crossed, and mixes what the bridge showed.
     fn see(&mut self, shown: &Outputs, crossed: &Crossed) {
-        self.writes = self.writes.wrapping_add(crossed.aw as u32);
-        self.reads = self.reads.wrapping_add(crossed.ar as u32);
-        self.beats = self.beats.wrapping_add(crossed.w as u64);
+        self.writes = self.writes.wrapping_add(u32::from(crossed.aw));
+        self.reads = self.reads.wrapping_add(u32::from(crossed.ar));
+        self.beats = self.beats.wrapping_add(u64::from(crossed.w));
         let word = shown.r.rdata
             ^ shown.lw.wdata
-            ^ (shown.law.addr as u64) << 16
-            ^ (shown.lar.addr as u64) << 24
+            ^ u64::from(shown.law.addr) << 16
+            ^ u64::from(shown.lar.addr) << 24
             ^ (u8::from(shown.b.code) as u64) << 60;
         self.sum = self.sum.rotate_left(5) ^ word;
     }
