@@ -1,5 +1,5 @@
 -- Lists cut at a mark.
-use Rattle.std.specs.Prelude.{◌≡◌, ℕ, ◌<◌, List, length, ◌≢◌, slice_index}
+use Rattle.std.specs.Prelude.{ℕ, ◌<◌, List, length, ◌≢◌, slice_index}
 
 -- the mark stands nowhere in the list
 abbrev pub Free : ℕ → List ℕ → Type 0

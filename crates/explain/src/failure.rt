@@ -4,7 +4,7 @@ use command::failure::Failure;
 use std::fmt;
 
 /// Why the program fails, but for input and output.
-#[derive(Clone, Copy)]
+#[derive(Clone, Copy, Debug, PartialEq, Eq)]
 pub enum Refusal {
     /// There are too many arguments.
     Usage,

@@ -5,7 +5,7 @@ use std::alloc::{AllocError, AllocFailed};
 use std::fmt;
 
 /// The two forms that a line may have.
-#[derive(Clone, Copy)]
+#[derive(Clone, Copy, Debug, PartialEq, Eq)]
 pub enum Form {
     /// The plan for the bursts that follow.
     Bridge,
@@ -14,7 +14,7 @@ pub enum Form {
 }
 
 /// A number of a line, by its name in the line's form.
-#[derive(Clone, Copy)]
+#[derive(Clone, Copy, Debug, PartialEq, Eq)]
 pub enum Field {
     /// The width of the upper bus in bytes.
     Upper,
@@ -34,7 +34,7 @@ pub enum Field {
 }
 
 /// A word that is not the number it should be.
-#[derive(Clone, Copy)]
+#[derive(Clone, Copy, Debug, PartialEq, Eq)]
 pub struct BadNumber {
     /// The number that the word stands for.
     pub field: Field,
@@ -45,7 +45,7 @@ pub struct BadNumber {
 }
 
 /// What is wrong with a line.
-#[derive(Clone, Copy)]
+#[derive(Clone, Copy, Debug, PartialEq, Eq)]
 pub enum Reason {
     /// A burst, or the end of the input, where there is no plan yet.
     NoPlan,
@@ -64,7 +64,7 @@ pub enum Reason {
 }
 
 /// Why the input is refused.
-#[derive(Clone, Copy)]
+#[derive(Clone, Copy, Debug, PartialEq, Eq)]
 pub enum Fault {
     /// What is wrong with the line of this number, counted from 1.
     Line(usize, Reason),
@@ -123,16 +123,6 @@ impl fmt::Display for Field {
     }
 }
 
-/// What is wrong with a plan, and what was expected.
-fn plan_words(refusal: PlanRefusal) -> &'static str {
-    match refusal {
-        PlanRefusal::Width => "a bus is neither 4 nor 8 bytes wide; expected 4 or 8 for U and L",
-        PlanRefusal::LowerAboveUpper =>
-            "the lower bus is wider than the upper one; expected L at most U",
-        PlanRefusal::Level => "there is no such level; expected 0, 1 or 2",
-    }
-}
-
 /// A byte as a message shows it.
 #[derive(Clone, Copy)]
 struct Quoted(u8);
@@ -188,8 +178,7 @@ impl fmt::Display for Reason {
             Reason::Number(bad) => write!(f, "{bad}"),
             Reason::Plan(refusal) => {
                 let number = u8::from(refusal);
-                let words = plan_words(refusal);
-                write!(f, "refusal {number}, {words}")
+                write!(f, "refusal {number}, {refusal}")
             }
             Reason::FieldTooLarge => write!(
                 f,

@@ -1,10 +1,12 @@
 //! Hexadecimal numbers as the input writes them: digits 0-9 and a-f, lower case only.
 ghost use Rattle.std.specs.Prelude.{◌≡◌, ℕ, ◌<◌, ◌≤◌, IfErr, Some, MatchResult};
 ghost use Rattle.explain.specs.Faults.{AtFault};
-ghost use Rattle.explain.specs.Hex.{hex_digit, hex_value};
+ghost use Rattle.explain.specs.Hex.{hex_value};
+
+use words::hex::digit;
 
 /// Why a word is no number that fits.
-#[derive(Clone, Copy)]
+#[derive(Clone, Copy, Debug, PartialEq, Eq)]
 pub enum NumberFault {
     /// The word has no digit.
     Empty,
@@ -12,17 +14,6 @@ pub enum NumberFault {
     NotADigit(u8),
     /// The number is above the largest allowed.
     TooLarge,
-}
-
-/// What a digit stands for.
-pub fn digit(byte: u8) -> Option<u8>
-    ensures { result ≡ hex_digit byte }
-{
-    match byte {
-        b'0'..=b'9' => Some(byte - b'0'),
-        b'a'..=b'f' => Some(byte - b'a' + 10),
-        _ => None,
-    }
 }
 
 /// The number that a word writes, where it is at most `largest`.

@@ -14,7 +14,7 @@ use axi::plan::Plan;
 use std::alloc::Global;
 
 /// What a line says.
-#[derive(Clone, Copy)]
+#[derive(Clone, Copy, Debug, PartialEq, Eq)]
 pub enum Item {
     /// The plan for the bursts that follow.
     Bridge(Plan),

@@ -7,49 +7,13 @@ ghost use Rattle.std.specs.Iterator.{at_most};
 ghost use Rattle.std.specs.Option.{option_map_or};
 
 use crate::parse::Item;
-use axi::burst::{Burst, Kind};
-use axi::plan::{Level, Plan};
+use axi::burst::Burst;
+use axi::plan::Plan;
 use axi::verdict::Verdict;
 use parts::cut::Parts;
 use parts::lanes::lane;
 use parts::walk::Walk;
 use std::fmt;
-
-/// The level in words.
-fn level_words(level: Level) -> &'static str {
-    match level {
-        Level::FullConversion => "full conversion",
-        Level::SimpleConversion => "simple conversion",
-        Level::FullProtection => "full protection",
-    }
-}
-
-/// The kind of a burst as AXI names it.
-fn kind_words(kind: Kind) -> &'static str {
-    match kind {
-        Kind::Fixed => "FIXED",
-        Kind::Incr => "INCR",
-        Kind::Wrap => "WRAP",
-        Kind::Reserved => "reserved",
-    }
-}
-
-/// The verdict in words.
-fn verdict_words(verdict: Verdict) -> &'static str {
-    match verdict {
-        Verdict::Forwarded => "forwarded",
-        Verdict::ReservedKind => "reserved kind of burst",
-        Verdict::WiderThanUpper => "beat wider than the upper bus",
-        Verdict::FixedTooLong => "FIXED of more than 16 beats",
-        Verdict::WrapCount => "WRAP of other than 2, 4, 8 or 16 beats",
-        Verdict::WrapUnaligned => "WRAP from an unaligned address",
-        Verdict::CrossesBoundary => "INCR across a multiple of 4096",
-        Verdict::SeveralBeats => "more than one beat",
-        Verdict::WiderThanLower => "beat wider than the lower bus",
-        Verdict::NarrowerThanLower => "beat narrower than the lower bus",
-        Verdict::LockedOrCached => "LOCK or CACHE set",
-    }
-}
 
 /// A verdict by its number and in words.
 #[derive(Clone, Copy)]
@@ -57,9 +21,9 @@ struct Ruling(Verdict);
 
 impl fmt::Display for Ruling {
     fn fmt<W: fmt::Write>(&self, f: &mut fmt::Formatter<W>) -> fmt::Result {
-        let number = u8::from(self.0);
-        let words = verdict_words(self.0);
-        write!(f, "{number} {words}")
+        let verdict = self.0;
+        let number = u8::from(verdict);
+        write!(f, "{number} {verdict}")
     }
 }
 
@@ -77,7 +41,7 @@ impl fmt::Display for Count {
 }
 
 /// The lanes of the upper bus that a part uses, first and last.
-#[derive(Clone, Copy)]
+#[derive(Clone, Copy, Debug, PartialEq, Eq)]
 pub struct Lanes {
     /// The lowest lane.
     pub first: u32,
@@ -190,7 +154,7 @@ impl fmt::Display for Planned {
         let addr = burst.addr;
         let beats = Count(burst.beats(), "beat");
         let bytes = Count(burst.bytes(), "byte");
-        let kind = kind_words(burst.kind());
+        let kind = burst.kind();
         writeln!(f, "burst {id:x} at {addr:x}: {beats} of {bytes}, {kind}")?;
         let verdict = plan.judge(burst);
         let here = Ruling(verdict);
@@ -208,11 +172,11 @@ impl fmt::Display for Planned {
 fn show_plan<W: fmt::Write>(f: &mut fmt::Formatter<W>, plan: Plan) -> fmt::Result {
     let upper = plan.upper();
     let lower = plan.lower();
-    let level = u8::from(plan.level);
-    let words = level_words(plan.level);
+    let level = plan.level;
+    let number = u8::from(level);
     writeln!(
         f,
-        "bridge {upper} bytes over {lower}, level {level} {words}"
+        "bridge {upper} bytes over {lower}, level {number} {level}"
     )
 }
 

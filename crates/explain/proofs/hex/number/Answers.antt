@@ -1,6 +1,6 @@
-use Rattle.std.proofs.Common.{◌≡◌, ℕ, ◌+◌, ◌*◌, drop, sym, refl, ap, ◌∙◌, arith}
+use Rattle.std.proofs.Common.{◌≡◌, ℕ, ◌+◌, ◌*◌, get_or, drop, sym, refl, ap, ◌∙◌, arith}
 use Rattle.explain.specs.Hex.{hex_after}
-use Rattle.explain.proofs.Digits.{after_grows, after_digit, after_other, after_all}
+use Rattle.explain.proofs.Digits.{same_digit, after_grows, after_digit, after_other, after_all}
 use Rattle.explain.proofs.hex.number.Goals as goal
 
 -- a byte that is no digit: the word is no number
@@ -10,7 +10,7 @@ returns-in_default c =
     let same = c.loop-byte.invariant.1 in
     record {
       value = λ v e. let z : ◌≡◌ {A = ℕ} 0 1 = cc in omega arith;
-      why = (sym c.in_default.ensures, (c.loop-byte.byte-index, c.loop-byte-test.true, refl));
+      why = (sym (c.in_default.ensures ∙ same_digit (get_or c.args.word.now c.loop-byte.byte-index 0)), (c.loop-byte.byte-index, c.loop-byte-test.true, refl));
     }
 
 -- past the largest already: the digits to come make it no smaller
