@@ -1,21 +1,13 @@
 //! Why the program ends with status 1.
-use command::failure::Failure;
-use std::alloc::AllocError;
 use std::fmt;
 
 /// Why the program fails, but for input and output.
-#[derive(Clone, Copy)]
+#[derive(Clone, Copy, Debug, PartialEq, Eq)]
 pub enum Stop {
     /// The transcript ends in a fault, which is printed already.
     Fault,
     /// Memory does not suffice.
     Memory,
-}
-
-impl From<AllocError> for Failure<Stop> {
-    fn from(_error: AllocError) -> Failure<Stop> {
-        Failure::Own(Stop::Memory)
-    }
 }
 
 impl fmt::Display for Stop {

@@ -58,7 +58,7 @@ fn fill_from<'a>(rt: &HostRuntime, path: &str, buffer: &'a mut [u8; ROOM]) -> io
 
 /// Plays a script and prints its transcript.
 fn print(rt: &HostRuntime, script: &[u8]) -> Result<(), Failure<Stop>> {
-    let transcript = play(rt.alloc(), script)?;
+    let transcript = play(rt.alloc(), script).map_err(|_| Failure::Own(Stop::Memory))?;
     rt.stdout().write_all(transcript.bytes.as_slice())?;
     match transcript.ending {
         Ending::Owed(_) => Ok(()),
