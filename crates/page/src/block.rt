@@ -2,6 +2,7 @@
 use crate::firmware::{LOCKED, PAGE, WORDS, page_word};
 use axi::wires::{Beat, Outputs, Place};
 use bridge::report::Crossed;
+use std::fmt;
 
 /// The words held, and the transfers under way.
 #[derive(Clone, Copy)]
@@ -111,15 +112,17 @@ impl Block {
             .copied()
             .eq((0..WORDS).map(page_word))
     }
+}
 
+impl fmt::Display for Block {
     /// Whether it holds the page and the lock.
-    pub fn verdict(&self) -> &'static str {
-        if !self.holds_page() {
+    fn fmt<W: fmt::Write>(&self, f: &mut fmt::Formatter<W>) -> fmt::Result {
+        f.write_str(if !self.holds_page() {
             "the block does not hold the page"
         } else if self.words[64] != LOCKED {
             "the block holds the page, not locked"
         } else {
             "the block holds the page, locked"
-        }
+        })
     }
 }

@@ -3,6 +3,7 @@ use axi::burst::Burst;
 use axi::code::Code;
 use axi::wires::{Beat, Outputs};
 use bridge::report::Crossed;
+use std::fmt;
 
 /// The page's first address.
 pub const PAGE: u32 = 0x600;
@@ -22,7 +23,7 @@ pub fn page_word(i: u32) -> u32 {
 }
 
 /// What the firmware is about.
-#[derive(Clone, Copy)]
+#[derive(Clone, Copy, Debug, PartialEq, Eq)]
 enum Job {
     /// Writes the page, and waits for its answer.
     Page,
@@ -109,7 +110,7 @@ impl Firmware {
 
     /// Whether the page was read back.
     pub fn is_done(&self) -> bool {
-        matches!(self.job, Job::Done)
+        self.job == Job::Done
     }
 
     /// The write burst on offer.
@@ -158,7 +159,7 @@ impl Firmware {
 
     /// A write answer: the page is locked on it, and the lock word's ends the writing.
     fn answered(&mut self, code: Code) {
-        if !matches!(code, Code::Okay) {
+        if code != Code::Okay {
             self.wrong = self.wrong.saturating_add(1);
         }
         let next = match self.job {
@@ -185,13 +186,15 @@ impl Firmware {
             self.begin(Job::Done);
         }
     }
+}
 
+impl fmt::Display for Firmware {
     /// What came of it.
-    pub fn verdict(&self) -> &'static str {
-        if self.is_done() && self.wrong == 0 {
+    fn fmt<W: fmt::Write>(&self, f: &mut fmt::Formatter<W>) -> fmt::Result {
+        f.write_str(if self.is_done() && self.wrong == 0 {
             "the firmware read the page back as it was written"
         } else {
             "the firmware did not read the page back"
-        }
+        })
     }
 }

@@ -69,9 +69,10 @@ impl<'a> Bench<'a> {
     fn step(&mut self, rt: &HostRuntime, edge: u32) -> anyhow::Result<()> {
         let o: Outputs = self.bridge.wires();
         let x = self.inputs(edge);
-        let Ok(report) = self.bridge.edge(&x) else {
-            return Err(anyhow!("the bridge refused an edge"));
-        };
+        let report = self
+            .bridge
+            .edge(&x)
+            .map_err(|_| anyhow!("the bridge refused an edge"))?;
         let mut lines = Vec::new(rt.alloc());
         print_edge(&mut lines, u64::from(edge), &crossings(&report, &x, &o))?;
         rt.stdout().write_all(lines.as_slice())?;
@@ -94,9 +95,7 @@ impl<'a> Bench<'a> {
 
 /// The whole run.
 fn run(rt: &HostRuntime) -> anyhow::Result<()> {
-    let Ok(plan) = Plan::new(8, 4, 0) else {
-        return Err(anyhow!("no such plan"));
-    };
+    let plan = Plan::new(8, 4, 0)?;
     let mut slots: Slots<4> = Slots::new();
     let mut bench = Bench::new(Bridge::new(plan, slots.tables()));
     let edges = bench.run(rt)?;
@@ -105,8 +104,8 @@ fn run(rt: &HostRuntime) -> anyhow::Result<()> {
         "owed {} writes, {} reads after {edges} edges",
         owed.writes, owed.reads
     )?;
-    println!(rt; "{}", bench.block.verdict())?;
-    println!(rt; "{}", bench.firmware.verdict())?;
+    println!(rt; "{}", bench.block)?;
+    println!(rt; "{}", bench.firmware)?;
     Ok(())
 }
 

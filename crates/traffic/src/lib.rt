@@ -25,7 +25,7 @@ fn drive(plan: Plan, edges: u64, gate: &mut dyn FnMut() -> u32) -> u64
 {
     let mut slots: Slots<SLOTS> = Slots::new();
     let mut bridge = Bridge::new(plan, slots.tables());
-    let mut load = Load::new();
+    let mut load = Load::default();
     for edge in 0..edges {
         load.step(&mut bridge, gate(), edge);
     }

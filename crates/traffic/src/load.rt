@@ -4,8 +4,8 @@ use axi::wires::{Beat, Inputs, LowerRead, Outputs};
 use bridge::bridge::Bridge;
 use bridge::report::Crossed;
 
-/// Where the load stands.
-#[derive(Clone, Copy)]
+/// Where the load stands, at first with all counts 0.
+#[derive(Clone, Copy, Debug, Default, PartialEq, Eq)]
 pub struct Load {
     /// The write bursts, read bursts and data beats that have crossed.
     writes: u32,
@@ -29,16 +29,6 @@ fn page(number: u32) -> Burst {
 }
 
 impl Load {
-    /// The load before the first edge.
-    pub fn new() -> Load {
-        Load {
-            writes: 0,
-            reads: 0,
-            beats: 0,
-            sum: 0,
-        }
-    }
-
     /// All payloads shown so far and the counts of what crossed, mixed.
     pub fn sum(&self) -> u64 {
         self.sum ^ self.beats ^ u64::from(self.writes) << 24 ^ u64::from(self.reads) << 44

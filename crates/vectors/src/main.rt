@@ -102,12 +102,14 @@ fn try_all(rt: &HostRuntime, bytes: &[u8]) -> anyhow::Result<()> {
 
 /// All bytes of the file of this name, or of standard input.
 fn read(rt: &HostRuntime, path: Option<String>) -> io::Result<Vec<u8>> {
-    if let Some(path) = path {
-        return fs::read(rt, path.as_str());
+    match path {
+        Some(path) => fs::read(rt, path.as_str()),
+        None => {
+            let mut bytes = Vec::new(rt.alloc());
+            rt.stdin().read_to_end(&mut bytes)?;
+            Ok(bytes)
+        }
     }
-    let mut bytes = Vec::new(rt.alloc());
-    rt.stdin().read_to_end(&mut bytes)?;
-    Ok(bytes)
 }
 
 /// Does what the argument asks for.

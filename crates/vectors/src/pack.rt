@@ -6,14 +6,14 @@ use std::error::Error;
 use std::fmt;
 
 /// A script and the transcript that is stored for it.
-#[derive(Clone, Copy)]
+#[derive(Clone, Copy, Debug, PartialEq, Eq)]
 pub struct Case<'a> {
     pub script: &'a [u8],
     pub stored: &'a [u8],
 }
 
 /// What follows is no script with its transcript.
-#[derive(Clone, Copy, Debug)]
+#[derive(Clone, Copy, Debug, PartialEq, Eq)]
 pub struct Malformed;
 
 impl fmt::Display for Malformed {
