@@ -135,7 +135,7 @@ impl<'a> ReadSide<'a> {
             }
             (Reader::Send(_, _), false, _) | (Reader::Await(_, _), _, false) => Below::default(),
             (Reader::Close(task), _, _) => {
-                if self.beats.push(task.read_beat()) {
+                if self.beats.push(task.read_beat()).is_ok() {
                     self.reader = task.next_read_beat(plan);
                 }
                 Below::default()
@@ -157,8 +157,9 @@ impl<'a> ReadSide<'a> {
         if events.r {
             self.beats.pop();
         }
+        // What crosses had a free slot, so no push is refused.
         if let Some(taken) = events.ar {
-            self.bursts.push(taken);
+            let _ = self.bursts.push(taken);
         }
     }
 

@@ -4,4 +4,4 @@
 
 pub mod ring;
 
-pub use ring::Ring;
+pub use ring::{Full, Ring};

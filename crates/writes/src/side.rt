@@ -168,7 +168,7 @@ impl<'a> WriteSide<'a> {
             }
             (Writer::Await(_, _), false) => Below::default(),
             (Writer::Close(task), _) => {
-                if self.answers.push(task.write_answer()) {
+                if self.answers.push(task.write_answer()).is_ok() {
                     self.writer = Writer::Idle;
                 }
                 Below::default()
@@ -190,11 +190,12 @@ impl<'a> WriteSide<'a> {
         if events.b {
             self.answers.pop();
         }
+        // What crosses had a free slot, so no push is refused.
         if let Some(taken) = events.aw {
-            self.bursts.push(taken);
+            let _ = self.bursts.push(taken);
         }
         if let Some(beat) = events.w {
-            self.beats.push(beat);
+            let _ = self.beats.push(beat);
         }
     }
 }
