@@ -1,5 +1,5 @@
 //! One text that collects every kind of answer.
-ghost use Rattle.answers.specs.Join.{total, join_codes};
+ghost use Rattle.answers.specs.Join.{total};
 ghost use Rattle.answers.specs.FirstError.{first_error};
 ghost use Rattle.std.specs.Prelude.{◌≡◌, List, [], ◌∷◌, ◌++◌};
 
@@ -27,15 +27,8 @@ impl<R: Answer + Copy> Collector<R> {
         ensures total { (so_far : List R) → self.sum ≡ Rattle.answers.specs.Join.total R.Answer.none R.Answer.joined so_far → result.sum ≡ Rattle.answers.specs.Join.total R.Answer.none R.Answer.joined (so_far ++ (a ∷ [])) }
     {
         Collector {
-            sum: self.sum_with(a),
+            sum: self.sum.join(a),
         }
-    }
-
-    /// What was collected, and this answer behind it.
-    fn sum_with(self, a: R) -> R
-        ensures { result ≡ R.Answer.joined self.sum a }
-    {
-        self.sum.join(a)
     }
 
     /// What all answers so far join to.
@@ -50,16 +43,7 @@ impl<R: Answer + Copy> Collector<R> {
 pub fn join_all(codes: &[Code]) -> Code
     ensures { result ≡ first_error codes.now }
 {
-    let mut all: Collector<Code> = Collector::new();
-    for code in codes {
-        all = with_code(all, *code);
-    }
-    all.sum()
-}
-
-/// One response more.
-fn with_code(all: Collector<Code>, code: Code) -> Collector<Code>
-    ensures { result.sum ≡ join_codes all.sum code }
-{
-    all.add(code)
+    codes
+        .iter()
+        .fold(Code::neutral(), |all, code| all.join(*code))
 }

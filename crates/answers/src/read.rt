@@ -25,17 +25,10 @@ impl ReadAnswer {
         ensures value { result ≡ part_answer plan at lr }
         ensures lanes { JoinsLaneByLane plan }
     {
-        read_part(plan, at, lr)
-    }
-}
-
-/// A part's data on its own lanes, and its response as it is read.
-fn read_part(plan: Plan, at: u32, lr: LowerRead) -> ReadAnswer
-    ensures { result ≡ part_answer plan at lr }
-{
-    ReadAnswer {
-        rdata: raise(plan, at, lr.lrdata),
-        code: Code::from(lr.lrresp),
+        ReadAnswer {
+            rdata: raise(plan, at, lr.lrdata),
+            code: Code::from(lr.lrresp),
+        }
     }
 }
 
