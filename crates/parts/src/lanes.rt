@@ -3,6 +3,7 @@ ghost use Rattle.std.specs.Prelude.{◌≡◌, ℕ, ◌+◌, ◌≤◌};
 ghost use Rattle.axi.specs.Plans.{lower_bytes, upper_bytes};
 ghost use Rattle.parts.specs.Lanes.{raised, write_part};
 
+// Plan and address stay two parameters: a part does not hold its plan, and each caller asks one of these questions once.
 use axi::plan::{Plan, Widths};
 use axi::wires::Beat;
 

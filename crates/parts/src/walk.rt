@@ -59,6 +59,7 @@ impl Walk {
 
     /// The address of the next beat, and the beats to come after it.
     /// Without a beat to come it is the last beat's address, and still none.
+    // A walk is a value within an engine's state, so the beats to come are answered beside the address.
     pub fn next(self) -> (u32, Walk)
         ensures address { result.0 ≡ here self }
         ensures whole { CarriedWhole self result.0 }

@@ -3,7 +3,7 @@ use Rattle.parts.specs.Addresses.{here}
 use Rattle.parts.proofs.Bounds.{carried_whole}
 use Rattle.parts.proofs.walk.Walk.next_address.Goals as goal
 
-pub returns : goal.returns
-returns c =
+pub returns-clause-whole : goal.returns-clause-whole
+returns-clause-whole c =
     let at : c.address.result ≡ here c.args.self = search rules in
-    record { which = at; whole = carried_whole c.args.self _ (omega arith) at }
+    carried_whole c.args.self _ (omega arith) at
