@@ -1,4 +1,4 @@
--- Codes join in order to the first error among them.
+-- Codes join lawfully, and in order to the first error among them.
 use Rattle.std.proofs.Common.{◌≡◌, List, [], ◌∷◌, fold, refl}
 use Rattle.axi.specs.declared.code.Code.{Code}
 use Rattle.axi.specs.declared.code.Code.TheVariants.{Okay, SlvErr, DecErr}
@@ -26,3 +26,13 @@ folds_to_first_error [] = refl
 folds_to_first_error (Okay ∷ cs) = folds_to_first_error cs
 folds_to_first_error (SlvErr ∷ cs) = slverr_stands cs
 folds_to_first_error (DecErr ∷ cs) = decerr_stands cs
+
+pub code_right : (x : Code) → join_codes x Okay ≡ x
+code_right Okay = refl
+code_right SlvErr = refl
+code_right DecErr = refl
+
+pub code_assoc : (x y z : Code) → join_codes (join_codes x y) z ≡ join_codes x (join_codes y z)
+code_assoc Okay y z = refl
+code_assoc SlvErr y z = refl
+code_assoc DecErr y z = refl
