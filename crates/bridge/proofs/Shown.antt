@@ -1,5 +1,5 @@
 -- The payload of a channel that the engine offers is what it shows: under a low VALID none, and none is shown as 0.
-use Rattle.std.proofs.Common.{◌≡◌, Bool, true, false, refl, unwrap_or}
+use Rattle.std.proofs.Common.{◌≡◌, true, false, refl, unwrap_or}
 use Rattle.ledgers.specs.Pieces.{Pieces}
 use Rattle.ledgers.specs.Joining.{Joining}
 use Rattle.ledgers.specs.Writer as write

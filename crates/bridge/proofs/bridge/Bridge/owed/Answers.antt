@@ -3,7 +3,5 @@ use Rattle.bridge.specs.Machines.{ask_owed_of}
 use Rattle.bridge.proofs.EdgeKept.{keeps}
 use Rattle.bridge.proofs.bridge.Bridge.owed.Goals as goal
 
-pub returns : goal.returns
-returns c =
-    let b = c.args.self.now in
-    record { writes = c.owed.ensures b.plan; reads = c.owed-2.ensures b.plan; promise = keeps b (ask_owed_of b) b refl }
+pub returns-clause-promise : goal.returns-clause-promise
+returns-clause-promise c = let b = c.args.self.now in keeps b (ask_owed_of b) b refl
