@@ -7,6 +7,8 @@ mod bursts;
 #[cfg(test)]
 mod cursors;
 #[cfg(test)]
+mod edges;
+#[cfg(test)]
 mod lists;
 #[cfg(test)]
 mod queues;
