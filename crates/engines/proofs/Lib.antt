@@ -1,2 +1,3 @@
 pub mod NextParts
 pub mod NextBeats
+pub mod Waiting

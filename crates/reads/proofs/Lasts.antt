@@ -1,13 +1,17 @@
--- Beats with LAST, counted one by one.
-use Rattle.std.proofs.Common.{◌≡◌, ℕ, ◌+◌, ◌<◌, List, [], ◌∷◌, ◌++◌, length, get_or, take, ap, ◌∙◌, arith}
-use Rattle.std.proofs.lemmas.List.{take_more}
+-- Beats with LAST, counted.
+use Rattle.std.proofs.Common.{◌≡◌, ℕ, ◌+◌, Bool, true, false, cond, List, [], ◌∷◌, ◌++◌, count_by, refl, arith}
+use Rattle.std.proofs.lemmas.List.Recursion.{is_count_by}
 use Rattle.axi.specs.declared.wires.ReadBeat.{ReadBeat}
 use Rattle.ledgers.specs.Lists.{one_if}
 use Rattle.engines.specs.Queues.{lasts_of}
 
-one_more : (xs : List ReadBeat) (y : ReadBeat) → lasts_of (xs ++ (y ∷ [])) ≡ lasts_of xs + one_if y.last
-one_more [] y = omega arith
-one_more (x ∷ xs) y = omega (arith, one_more xs y)
+one_more_if : (t : Bool) (n : ℕ) → one_if t + n ≡ cond t (1 + n) n
+one_more_if true n = refl
+one_more_if false n = omega arith
 
-pub lasts_more : (xs : List ReadBeat) (i : ℕ) (d : ReadBeat) → i < length xs → lasts_of (take (i + 1) xs) ≡ lasts_of (take i xs) + one_if (get_or xs i d).last
-lasts_more xs i d h = ap lasts_of (take_more xs i d h) ∙ one_more (take i xs) (get_or xs i d)
+pub counted : (xs : List ReadBeat) → lasts_of xs ≡ count_by (λ r. r.last) xs
+counted xs = is_count_by lasts_of (λ r. r.last) refl (λ r rs. one_more_if r.last (lasts_of rs)) xs
+
+pub append : (xs ys : List ReadBeat) → lasts_of (xs ++ ys) ≡ lasts_of xs + lasts_of ys
+append [] ys = omega arith
+append (x ∷ xs) ys = omega (arith, append xs ys)

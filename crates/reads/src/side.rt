@@ -1,5 +1,4 @@
 //! The read side: two queues and the read engine.
-ghost use Rattle.engines.specs.Protocol.{no_read_beat};
 ghost use Rattle.reads.specs.ReadSides.{reads_view, read_slots, no_reads, reads_crossed, read_side_events, read_side_moved, read_side_edged, below_of, ReadsBecome};
 ghost use Rattle.ledgers.specs.Lists.{any};
 ghost use Rattle.ledgers.specs.OneByOne.{room};
@@ -8,8 +7,7 @@ ghost use Rattle.engines.specs.Reads.{reader_view, reader_wires};
 ghost use Rattle.engines.specs.Queues.{lasts_of};
 ghost use Rattle.ring.specs.Circular.{first};
 ghost use Rattle.ring.specs.Entries.{entries};
-ghost use Rattle.ledgers.specs.Lists.{one_if};
-ghost use Rattle.std.specs.Prelude.{◌≡◌, ℕ, ◌+◌, ◌<◌, ◌≤◌, length, slice_index_or};
+ghost use Rattle.std.specs.Prelude.{◌≡◌, ℕ, ◌+◌, ◌<◌, ◌^◌, length};
 
 use axi::plan::Plan;
 use axi::wires::{Inputs, ReadBeat};
@@ -56,12 +54,13 @@ impl<'a> ReadSide<'a> {
     }
 
     /// One edge: the engine moves, then what crosses above enters and leaves. It answers what crossed.
+    #[tactic(auto, using(engines::proofs::Waiting::waits))]
     pub fn edge(&mut self, plan: Plan, x: &Inputs) -> ReadEvents
         ensures events { result ≡ read_side_events plan self.old x.now }
         ensures edged { ReadsBecome plan self.old self.new (read_side_edged plan self.old x.now) }
     {
         let ar = (x.arvalid & self.takes_burst()).then(|| Taken::new(plan, x.ar));
-        let r = self.has_beat() & x.rready;
+        let r = !self.beats.is_empty() & x.rready;
         let Below { lar, lr } = self.step(plan, x);
         let events = ReadEvents { ar, r, lar, lr };
         self.cross(plan, events);
@@ -104,7 +103,7 @@ impl<'a> ReadSide<'a> {
         ensures { (p : Plan) → result ≡ length (entries self.now.bursts) + busy (reader_view p self.now.reader) + lasts_of (entries self.now.beats) }
     {
         let busy = u128::from(!matches!(self.reader, Reader::Idle));
-        self.bursts.len() as u128 + busy + self.lasts() as u128
+        self.bursts.len() as u128 + busy + self.lasts()
     }
 
     /// One move of the engine, by its state and the wires from below. It answers what crossed there.
@@ -143,13 +142,6 @@ impl<'a> ReadSide<'a> {
         }
     }
 
-    /// RVALID: a beat waits.
-    fn has_beat(&self) -> bool
-        ensures { result ≡ any (entries self.now.beats) }
-    {
-        self.beats.front().is_some()
-    }
-
     /// What crosses above: a beat leaves, a burst enters.
     fn cross(&mut self, plan: Plan, events: ReadEvents)
         ensures { ReadsBecome plan self.old self.new (reads_crossed (read_slots self.old) events (reads_view plan self.old)) }
@@ -164,24 +156,20 @@ impl<'a> ReadSide<'a> {
     }
 
     /// How many beats that wait have LAST.
-    fn lasts(&self) -> usize
-        ensures { result ≡ lasts_of (entries self.now.beats) }
+    #[tactic(auto, using(crate::proofs::Lasts::append))]
+    fn lasts(&self) -> u128
+        ensures count { result ≡ lasts_of (entries self.now.beats) }
+        ensures small { result < 2 ^ 65 }
     {
-        let mut count = 0;
-        for i in 0..self.beats.len() {
-            count += self.last_at(i);
-        }
-        count
+        let (older, newer) = self.beats.as_slices();
+        lasts_among(older) as u128 + lasts_among(newer) as u128
     }
+}
 
-    /// 1 if the beat that `i` others are older than has LAST, else 0.
-    fn last_at(&self, i: usize) -> usize
-        ensures last { i < length (entries self.now.beats) → result ≡ one_if (slice_index_or (entries self.now.beats) i no_read_beat).last }
-        ensures small { result ≤ 1 }
-    {
-        match self.beats.get(i) {
-            Some(beat) if beat.last => 1,
-            _ => 0,
-        }
-    }
+/// How many of these beats have LAST.
+#[tactic(auto, using(crate::proofs::Lasts::counted))]
+fn lasts_among(beats: &[ReadBeat]) -> usize
+    ensures { result ≡ lasts_of beats.now }
+{
+    beats.iter().filter(|beat| beat.last).count()
 }

@@ -64,13 +64,14 @@ impl<'a> WriteSide<'a> {
     }
 
     /// One edge: the engine moves, then what crosses above enters and leaves. It answers what crossed.
+    #[tactic(auto, using(engines::proofs::Waiting::waits))]
     pub fn edge(&mut self, plan: Plan, x: &Inputs) -> WriteEvents
         ensures events { result ≡ write_side_events plan self.old x.now }
         ensures edged { WritesBecome plan self.old self.new (write_side_edged plan self.old x.now) }
     {
         let aw = (x.awvalid & self.takes_burst()).then(|| Taken::new(plan, x.aw));
         let w = (x.wvalid & self.takes_beat()).then_some(x.w);
-        let b = self.has_answer() & x.bready;
+        let b = !self.answers.is_empty() & x.bready;
         let Below { law, lw, lb } = self.step(plan, x);
         let events = WriteEvents {
             aw,
@@ -174,13 +175,6 @@ impl<'a> WriteSide<'a> {
                 Below::default()
             }
         }
-    }
-
-    /// BVALID: an answer waits.
-    fn has_answer(&self) -> bool
-        ensures { result ≡ any (entries self.now.answers) }
-    {
-        self.answers.front().is_some()
     }
 
     /// What crosses above: an answer leaves, a burst and a beat enter.
