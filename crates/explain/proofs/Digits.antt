@@ -1,7 +1,7 @@
 -- A word's number, digit by digit.
 use Rattle.std.proofs.Common.{◌≡◌, ℕ, ◌+◌, ◌-◌, ◌*◌, ◌<◌, ◌≤◌, Bool, true, false, cond, ◌&&◌, ◌||◌, nat_le, List, [], ◌∷◌, length, get_or, drop, Some, None, Option, sym, refl, ap, ◌∙◌, arith}
 use Rattle.std.proofs.lemmas.Bool.{leb-true}
-use Rattle.std.proofs.lemmas.List.{at_drop_more, at_drop_all}
+use Rattle.std.proofs.lemmas.List.{at_drop_more}
 use Rattle.explain.specs.Hex.{hex_digit, on_digit, hex_after}
 use Rattle.words.specs.Numbers.{is_digit, digit_value}
 
@@ -32,11 +32,3 @@ after_grows (b ∷ bs) v x e = grown_by (hex_digit b) bs v x (λ w. after_grows 
 -- the next byte is a digit, and goes behind the number so far
 pub after_digit : (w : List ℕ) (i v d : ℕ) → i < length w → Some d ≡ word_digit (get_or w i 0) → hex_after (v * 16 + d) (drop (i + 1) w) ≡ hex_after v (drop i w)
 after_digit w i v d h e = ap (λ o. on_digit o (λ d. hex_after (v * 16 + d) (drop (i + 1) w))) (e ∙ same_digit (get_or w i 0)) ∙ sym (at_drop_more (hex_after v) w i 0 h)
-
--- the next byte is no digit, and the word no number
-pub after_other : (w : List ℕ) (i v : ℕ) → i < length w → None ≡ word_digit (get_or w i 0) → hex_after v (drop i w) ≡ None
-after_other w i v h e = at_drop_more (hex_after v) w i 0 h ∙ sym (ap (λ o. on_digit o (λ d. hex_after (v * 16 + d) (drop (i + 1) w))) (e ∙ same_digit (get_or w i 0)))
-
--- past the last byte
-pub after_all : (w : List ℕ) (i v : ℕ) → length w ≤ i → hex_after v (drop i w) ≡ Some v
-after_all w i v h = at_drop_all (hex_after v) w i h
