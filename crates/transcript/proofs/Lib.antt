@@ -1,3 +1,4 @@
 mod Digits
-mod Lines
-mod Rows
+mod Numbers
+mod There
+mod Wide

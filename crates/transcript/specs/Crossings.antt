@@ -11,8 +11,8 @@ use Rattle.engines.specs.Queues.{when}
 use Rattle.bridge.specs.declared.report.Report.{Report}
 use Rattle.bridge.specs.declared.report.Verdicts.{Verdicts}
 use Rattle.ledgers.specs.Lists.{one_if}
-use Rattle.transcript.specs.Printing.{numeral, row}
-use Rattle.transcript.specs.declared.print.Base.TheVariants.{Hex}
+use Rattle.transcript.specs.Printing.{numeral, row, spaced}
+use Rattle.transcript.specs.Printing.Base.{Hex}
 use Rattle.transcript.specs.declared.crossing.Crossing.{Crossing}
 use Rattle.transcript.specs.declared.crossing.Crossing.TheVariants.{Aw, W, B, Ar, R, Law, Lw, Lb, Lar, Lr}
 
@@ -42,6 +42,10 @@ fields (Lw w) = w.wdata ∷ w.wstrb ∷ []
 fields (Lb c) = c ∷ []
 fields (Lar a) = a.addr ∷ a.prot ∷ []
 fields (Lr r) = r.lrdata ∷ r.lrresp ∷ []
+
+-- a crossing without its edge: the channel and the fields
+abbrev pub crossing_text : Crossing → List ℕ
+crossing_text c = channel c ++ spaced Hex (fields c)
 
 -- the line of a crossing: the edge, the channel and the fields
 abbrev pub entry_line : ℕ → Crossing → List ℕ

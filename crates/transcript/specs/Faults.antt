@@ -13,7 +13,8 @@ use Rattle.transcript.specs.declared.fault.Layer.TheVariants as layers
 use Rattle.transcript.specs.declared.fault.Refused.{Refused}
 use Rattle.transcript.specs.declared.fault.Refused.TheVariants.{Plan, Edge}
 use Rattle.transcript.specs.declared.fault.PlayerFault.{PlayerFault}
-use Rattle.transcript.specs.declared.fault.PlayerFault.TheVariants.{Script, Bridge}
+use Rattle.transcript.specs.declared.fault.Cause.{Cause}
+use Rattle.transcript.specs.declared.fault.Cause.TheVariants.{Script, Bridge}
 
 -- the words of the layers in a fault line
 abbrev pub layer_name : Layer → List ℕ
@@ -28,34 +29,40 @@ refused_number (Edge e) = refusal_number e
 
 -- what the player's fault is made of; a refusal stands at line 1, place 0 until it is placed
 abbrev pub of_script : Fault → PlayerFault
-of_script f = Script f
+of_script f = record { cause = Script f.wrong; line = f.line; place = f.place }
+
+abbrev pub of_refused : Refused → PlayerFault
+of_refused e = record { cause = Bridge e; line = 1; place = 0 }
 
 abbrev pub of_plan : PlanRefusal → PlayerFault
-of_plan e = Bridge (Plan e) 1 0
+of_plan e = of_refused (Plan e)
 
 abbrev pub of_edge : Refusal → PlayerFault
-of_edge e = Bridge (Edge e) 1 0
+of_edge e = of_refused (Edge e)
 
 abbrev pub placed : PlayerFault → ℕ → ℕ → PlayerFault
-placed (Script f) line place = Script (record { wrong = f.wrong; line = line; place = place })
-placed (Bridge e l p) line place = Bridge e line place
+placed f line place = record { cause = f.cause; line = line; place = place }
 
 abbrev pub reading_layer : script_layer.Layer → Layer
 reading_layer script_layers.Words = layers.Words
 reading_layer script_layers.Sections = layers.Sections
 
+abbrev pub cause_layer : Cause → Layer
+cause_layer (Script w) = reading_layer (layer_of w)
+cause_layer (Bridge e) = layers.Bridge
+
+abbrev pub cause_number : Cause → ℕ
+cause_number (Script w) = wrong_number w
+cause_number (Bridge e) = refused_number e
+
 abbrev pub fault_layer : PlayerFault → Layer
-fault_layer (Script f) = reading_layer (layer_of f.wrong)
-fault_layer (Bridge e line place) = layers.Bridge
+fault_layer f = cause_layer f.cause
 
 abbrev pub fault_number : PlayerFault → ℕ
-fault_number (Script f) = wrong_number f.wrong
-fault_number (Bridge e line place) = refused_number e
+fault_number f = cause_number f.cause
 
 abbrev pub fault_line : PlayerFault → ℕ
-fault_line (Script f) = f.line
-fault_line (Bridge e line place) = line
+fault_line f = f.line
 
 abbrev pub fault_place : PlayerFault → ℕ
-fault_place (Script f) = f.place
-fault_place (Bridge e line place) = place
+fault_place f = f.place

@@ -1,8 +1,12 @@
 -- Numbers and lines of a transcript, as bytes.
 use Rattle.std.specs.Prelude.{ℕ, ◌+◌, cond, List, [], ◌∷◌, ◌++◌, map, ◌==◌, nat_lt}
+use Rattle.std.specs.List.{flat_map}
 use Rattle.std.specs.Int.Digits.{digits_of as digitsOf}
-use Rattle.transcript.specs.declared.print.Base.{Base}
-use Rattle.transcript.specs.declared.print.Base.TheVariants.{Decimal, Hex}
+
+-- the base that a number is written in
+pub data Base : Type 0 where
+  Decimal : Base
+  Hex : Base
 
 abbrev pub base_of : Base → ℕ
 base_of Decimal = 10
@@ -29,3 +33,7 @@ separator_to (v ∷ vs) = 32
 abbrev pub row : Base → List ℕ → List ℕ
 row base [] = []
 row base (v ∷ vs) = numeral base v ++ (separator_to vs ∷ row base vs)
+
+-- the numbers of a line, with a space before each
+abbrev pub spaced : Base → List ℕ → List ℕ
+spaced base vs = flat_map (λ v. 32 ∷ numeral base v) vs

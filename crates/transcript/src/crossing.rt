@@ -1,16 +1,17 @@
 //! What crosses on an edge, and its lines in a transcript.
-ghost use Rattle.engines.specs.Queues;
-ghost use Rattle.transcript.specs.Crossings.{channel, fields, entry_line, edge_lines, verdict_told, edge_crossings};
-ghost use Rattle.transcript.specs.Printing.{row};
-ghost use Rattle.transcript.specs.declared.print.Base.TheVariants.{Hex};
-ghost use Rattle.std.specs.Prelude.{◌≡◌, ◌++◌, OnOk};
+ghost use Rattle.std.specs.Fmt.{WritesOnOk};
+ghost use Rattle.transcript.specs.Printing.{spaced};
+ghost use Rattle.transcript.specs.Printing.Base.{Hex};
+ghost use Rattle.transcript.specs.Crossings.{channel, fields, crossing_text, entry_line, edge_lines, verdict_told, edge_crossings};
+ghost use Rattle.std.specs.Prelude.{◌≡◌, ◌++◌, OnOk, Some};
 
-use crate::print::{Base, number, numbers, word};
 use axi::verdict::Verdict;
 use axi::wires::{Beat, Inputs, LowerRead, Outputs, Place, ReadBeat, WriteAnswer};
 use bridge::report::{Report, Verdicts};
 use engines::taken::Taken;
 use std::alloc::AllocError;
+use std::fmt;
+use std::io::Write;
 
 /// A payload that crosses on a channel.
 #[derive(Clone, Copy)]
@@ -27,58 +28,71 @@ pub enum Crossing {
     Lr(LowerRead),
 }
 
+/// The channel and the fields of the payload.
+impl fmt::Display for Crossing {
+    ghost output = { λ c. Some (crossing_text c) };
+
+    fn fmt<W: fmt::Write>(&self, f: &mut fmt::Formatter<W>) -> fmt::Result {
+        f.write_str(self.name())?;
+        self.write_fields(f)
+    }
+}
+
+/// Numbers in hexadecimal, with a space before each.
+fn write_numbers<W: fmt::Write>(f: &mut fmt::Formatter<W>, numbers: &[u64]) -> fmt::Result
+    ensures { WritesOnOk W.write_str_gives f.old result (spaced Hex numbers.now) f.new }
+{
+    for number in numbers {
+        write!(f, " {number:x}")?;
+    }
+    Ok(())
+}
+
 impl Crossing {
     /// The word that stands for the channel.
-    fn name(self) -> &'static [u8]
+    fn name(self) -> &'static str
         ensures { result.now ≡ channel self }
     {
         match self {
-            Crossing::Aw(_) => b"AW",
-            Crossing::W(_) => b"W",
-            Crossing::B(_) => b"B",
-            Crossing::Ar(_) => b"AR",
-            Crossing::R(_) => b"R",
-            Crossing::Law(_) => b"LAW",
-            Crossing::Lw(_) => b"LW",
-            Crossing::Lb(_) => b"LB",
-            Crossing::Lar(_) => b"LAR",
-            Crossing::Lr(_) => b"LR",
+            Crossing::Aw(_) => "AW",
+            Crossing::W(_) => "W",
+            Crossing::B(_) => "B",
+            Crossing::Ar(_) => "AR",
+            Crossing::R(_) => "R",
+            Crossing::Law(_) => "LAW",
+            Crossing::Lw(_) => "LW",
+            Crossing::Lb(_) => "LB",
+            Crossing::Lar(_) => "LAR",
+            Crossing::Lr(_) => "LR",
         }
     }
 
-    /// The fields of the payload, to the end of the line.
-    fn print_fields(self, out: &mut Vec<u8>) -> Result<(), AllocError>
-        ensures { OnOk result (out.new.items ≡ out.old.items ++ row Hex (fields self)) }
+    /// The fields of the payload.
+    fn write_fields<W: fmt::Write>(self, f: &mut fmt::Formatter<W>) -> fmt::Result
+        ensures { WritesOnOk W.write_str_gives f.old result (spaced Hex (fields self)) f.new }
     {
         match self {
             Crossing::Aw(taken) | Crossing::Ar(taken) => {
-                let id = taken.burst.id as u128;
-                let verdict = u8::from(taken.verdict) as u128;
-                numbers(out, Base::Hex, &[id, verdict])
+                let verdict = u8::from(taken.verdict);
+                write_numbers(f, &[taken.burst.id.into(), verdict.into()])
             }
             Crossing::W(beat) | Crossing::Lw(beat) => {
-                numbers(out, Base::Hex, &[beat.wdata as u128, beat.wstrb as u128])
+                write_numbers(f, &[beat.wdata, beat.wstrb.into()])
             }
             Crossing::B(answer) => {
-                let code = u8::from(answer.code) as u128;
-                numbers(out, Base::Hex, &[answer.id as u128, code])
+                let code = u8::from(answer.code);
+                write_numbers(f, &[answer.id.into(), code.into()])
             }
             Crossing::R(beat) => {
-                let code = u8::from(beat.code) as u128;
-                let last = beat.last as u128;
-                numbers(
-                    out,
-                    Base::Hex,
-                    &[beat.id as u128, beat.rdata as u128, code, last],
-                )
+                let code = u8::from(beat.code);
+                let last = u64::from(beat.last);
+                write_numbers(f, &[beat.id.into(), beat.rdata, code.into(), last])
             }
             Crossing::Law(place) | Crossing::Lar(place) => {
-                numbers(out, Base::Hex, &[place.addr as u128, place.prot as u128])
+                write_numbers(f, &[place.addr.into(), place.prot.into()])
             }
-            Crossing::Lb(code) => numbers(out, Base::Hex, &[code as u128]),
-            Crossing::Lr(read) => {
-                numbers(out, Base::Hex, &[read.lrdata as u128, read.lrresp as u128])
-            }
+            Crossing::Lb(code) => write_numbers(f, &[code.into()]),
+            Crossing::Lr(read) => write_numbers(f, &[read.lrdata, read.lrresp.into()]),
         }
     }
 
@@ -86,31 +100,18 @@ impl Crossing {
     pub fn print(self, out: &mut Vec<u8>, edge: u64) -> Result<(), AllocError>
         ensures { OnOk result (out.new.items ≡ out.old.items ++ entry_line edge self) }
     {
-        number(out, Base::Hex, edge as u128)?;
-        out.push(b' ')?;
-        word(out, self.name())?;
-        self.print_fields(out)
+        writeln!(out, "{edge:x} {self}").map_err(|_| AllocError)
     }
 }
 
 /// How many channels there are.
 pub const CHANNELS: usize = 10;
 
-/// A payload, if its channel crosses.
-fn when(crosses: bool, crossing: Crossing) -> Option<Crossing>
-    ensures { result ≡ Queues.when crosses crossing }
-{
-    if crosses { Some(crossing) } else { None }
-}
-
 /// The verdict on a burst that is taken.
 fn verdict(told: Option<Verdicts>) -> Verdict
     ensures { result ≡ verdict_told told }
 {
-    match told {
-        Some(verdicts) => verdicts.verdict,
-        None => Verdict::Forwarded,
-    }
+    told.map_or(Verdict::Forwarded, |verdicts| verdicts.verdict)
 }
 
 /// What crosses on an edge, channel by channel, in the order of the transcript.
@@ -126,17 +127,18 @@ pub fn crossings(report: &Report, x: &Inputs, o: &Outputs) -> [Option<Crossing>;
         burst: x.ar,
         verdict: verdict(report.read),
     };
-    let aw = when(crossed.aw, Crossing::Aw(write));
-    let w = when(crossed.w, Crossing::W(x.w));
-    let b = when(crossed.b, Crossing::B(o.b));
-    let ar = when(crossed.ar, Crossing::Ar(read));
-    let r = when(crossed.r, Crossing::R(o.r));
-    let law = when(crossed.law, Crossing::Law(o.law));
-    let lw = when(crossed.lw, Crossing::Lw(o.lw));
-    let lb = when(crossed.lb, Crossing::Lb(x.lbresp));
-    let lar = when(crossed.lar, Crossing::Lar(o.lar));
-    let lr = when(crossed.lr, Crossing::Lr(x.lr));
-    [aw, w, b, ar, r, law, lw, lb, lar, lr]
+    [
+        crossed.aw.then_some(Crossing::Aw(write)),
+        crossed.w.then_some(Crossing::W(x.w)),
+        crossed.b.then_some(Crossing::B(o.b)),
+        crossed.ar.then_some(Crossing::Ar(read)),
+        crossed.r.then_some(Crossing::R(o.r)),
+        crossed.law.then_some(Crossing::Law(o.law)),
+        crossed.lw.then_some(Crossing::Lw(o.lw)),
+        crossed.lb.then_some(Crossing::Lb(x.lbresp)),
+        crossed.lar.then_some(Crossing::Lar(o.lar)),
+        crossed.lr.then_some(Crossing::Lr(x.lr)),
+    ]
 }
 
 /// The lines of an edge.
@@ -147,10 +149,8 @@ pub fn print_edge(
 ) -> Result<(), AllocError>
     ensures { OnOk result (out.new.items ≡ out.old.items ++ edge_lines edge crossings.now) }
 {
-    for crossing in crossings {
-        if let Some(crossing) = crossing {
-            crossing.print(out, edge)?;
-        }
+    for crossing in crossings.iter().flatten() {
+        crossing.print(out, edge)?;
     }
     Ok(())
 }

@@ -1,53 +1,47 @@
 //! The last line of a transcript.
-ghost use Rattle.transcript.specs.Endings.{ending_line, owed_numbers, fault_numbers};
-ghost use Rattle.std.specs.Prelude.{◌≡◌, ◌++◌, OnOk};
+ghost use Rattle.transcript.specs.Endings.{ending_line};
+ghost use Rattle.transcript.specs.Printing.{numeral};
+ghost use Rattle.transcript.specs.Printing.Base.{Hex};
+ghost use Rattle.std.specs.Prelude.{◌≡◌, ◌++◌, OnOk, Some};
 
 use crate::fault::PlayerFault;
-use crate::print::{Base, numbers, word};
 use bridge::bridge::Owed;
 use std::alloc::AllocError;
+use std::fmt;
+use std::io::Write;
 
-/// How the playing ends.
+/// How the playing ends: every gate was played and so much is owed, or a fault ended it.
+pub type Ending = Result<Owed, PlayerFault>;
+
+/// One more than the numbers of 64 bits.
+const HALF: u128 = 0x1_0000_0000_0000_0000;
+
+/// A count in hexadecimal. The library's `{:x}` states its text up to 64 bits only.
 #[derive(Clone, Copy)]
-pub enum Ending {
-    /// Every gate was played; so much is owed.
-    Owed(Owed),
-    /// A fault ended it.
-    Fault(PlayerFault),
-}
+struct Count(u128);
 
-/// What is owed, in the order of its line.
-fn owed_row(owed: Owed) -> [u128; 2]
-    ensures { result ≡ owed_numbers owed }
-{
-    [owed.writes, owed.reads]
-}
+impl fmt::Display for Count {
+    ghost output = { λ c. Some (numeral Hex c.0) };
 
-/// Number, line and place of a fault, in the order of its line.
-fn fault_row(fault: PlayerFault) -> [u128; 3]
-    ensures { result ≡ fault_numbers fault }
-{
-    let number = fault.number() as u128;
-    let line = fault.line() as u128;
-    let place = fault.place() as u128;
-    [number, line, place]
-}
-
-impl Ending {
-    /// The last line.
-    pub fn print(self, out: &mut Vec<u8>) -> Result<(), AllocError>
-        ensures { OnOk result (out.new.items ≡ out.old.items ++ ending_line self) }
-    {
-        match self {
-            Ending::Owed(owed) => {
-                word(out, b"owed")?;
-                numbers(out, Base::Hex, &owed_row(owed))
-            }
-            Ending::Fault(fault) => {
-                word(out, b"fault")?;
-                word(out, fault.layer().name())?;
-                numbers(out, Base::Decimal, &fault_row(fault))
-            }
+    fn fmt<W: fmt::Write>(&self, f: &mut fmt::Formatter<W>) -> fmt::Result {
+        let count = self.0;
+        let high = (count / HALF) as u64;
+        let low = (count % HALF) as u64;
+        if high == 0 {
+            write!(f, "{low:x}")
+        } else {
+            write!(f, "{high:x}{low:016x}")
         }
     }
+}
+
+/// The last line.
+pub fn print_ending(out: &mut Vec<u8>, ending: Ending) -> Result<(), AllocError>
+    ensures { OnOk result (out.new.items ≡ out.old.items ++ ending_line ending) }
+{
+    let printed = match ending {
+        Ok(owed) => writeln!(out, "owed {} {}", Count(owed.writes), Count(owed.reads)),
+        Err(fault) => writeln!(out, "{fault}"),
+    };
+    printed.map_err(|_| AllocError)
 }

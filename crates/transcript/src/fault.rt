@@ -1,34 +1,47 @@
 //! The player's fault, which holds the fault of the script or the refusal of the bridge.
-ghost use Rattle.transcript.specs.Faults.{of_script, of_plan, of_edge, placed, fault_layer, fault_number, fault_line, fault_place, refused_number, layer_name};
-ghost use Rattle.std.specs.Prelude.{◌≡◌};
+ghost use Rattle.transcript.specs.Endings.{fault_text};
+ghost use Rattle.transcript.specs.Faults.{of_script, of_refused, of_plan, of_edge, placed, reading_layer, fault_layer, fault_number, refused_number, layer_name};
+ghost use Rattle.std.specs.Prelude.{◌≡◌, Some};
 
 use axi::plan::PlanRefusal;
 use axi::wires::Refusal;
-use words::fault::{Fault, Layer as ScriptLayer};
+use std::fmt;
+use words::fault::{Fault, Layer as ScriptLayer, Wrong};
 
 /// The part of the player that refuses.
-#[derive(Clone, Copy)]
+#[derive(Clone, Copy, Debug, PartialEq, Eq)]
 pub enum Layer {
     Words,
     Sections,
     Bridge,
 }
 
-impl Layer {
-    /// The word that stands for the layer in a fault line.
-    pub fn name(self) -> &'static [u8]
-        ensures { result.now ≡ layer_name self }
-    {
+impl From<ScriptLayer> for Layer {
+    ghost from_gives = { λ s l. l ≡ reading_layer s };
+
+    fn from(layer: ScriptLayer) -> Layer {
+        match layer {
+            ScriptLayer::Words => Layer::Words,
+            ScriptLayer::Sections => Layer::Sections,
+        }
+    }
+}
+
+/// The word that stands for the layer in a fault line.
+impl fmt::Display for Layer {
+    ghost output = { λ l. Some (layer_name l) };
+
+    fn fmt<W: fmt::Write>(&self, f: &mut fmt::Formatter<W>) -> fmt::Result {
         match self {
-            Layer::Words => b"words",
-            Layer::Sections => b"sections",
-            Layer::Bridge => b"bridge",
+            Layer::Words => write!(f, "words"),
+            Layer::Sections => write!(f, "sections"),
+            Layer::Bridge => write!(f, "bridge"),
         }
     }
 }
 
 /// What the bridge refuses.
-#[derive(Clone, Copy)]
+#[derive(Clone, Copy, Debug, PartialEq, Eq)]
 pub enum Refused {
     /// There is no such plan.
     Plan(PlanRefusal),
@@ -36,32 +49,57 @@ pub enum Refused {
     Edge(Refusal),
 }
 
-impl Refused {
+impl From<Refused> for u8 {
+    ghost from_gives = { λ r n. n ≡ refused_number r };
+
     /// The number of the refusal.
-    pub fn number(self) -> u8
-        ensures { result ≡ refused_number self }
-    {
-        match self {
+    fn from(refused: Refused) -> u8 {
+        match refused {
             Refused::Plan(refusal) => u8::from(refusal),
             Refused::Edge(refusal) => u8::from(refusal),
         }
     }
 }
 
-/// Why a script is not played to its end.
-#[derive(Clone, Copy)]
-pub enum PlayerFault {
+/// What ends the playing of a script early.
+#[derive(Clone, Copy, Debug, PartialEq, Eq)]
+pub enum Cause {
     /// The script is refused.
-    Script(Fault),
-    /// The bridge refuses, for what stands at this line and place.
-    Bridge(Refused, usize, usize),
+    Script(Wrong),
+    /// The bridge refuses.
+    Bridge(Refused),
+}
+
+/// Why a script is not played to its end: the cause, the line from 1, and the place from 0.
+#[derive(Clone, Copy, Debug, PartialEq, Eq)]
+pub struct PlayerFault {
+    pub cause: Cause,
+    pub line: usize,
+    pub place: usize,
 }
 
 impl From<Fault> for PlayerFault {
     ghost from_gives = { λ f p. p ≡ of_script f };
 
     fn from(fault: Fault) -> PlayerFault {
-        PlayerFault::Script(fault)
+        PlayerFault {
+            cause: Cause::Script(fault.wrong),
+            line: fault.line,
+            place: fault.place,
+        }
+    }
+}
+
+/// A refusal of the bridge stands at line 1, place 0 until it is placed.
+impl From<Refused> for PlayerFault {
+    ghost from_gives = { λ r p. p ≡ of_refused r };
+
+    fn from(refused: Refused) -> PlayerFault {
+        PlayerFault {
+            cause: Cause::Bridge(refused),
+            line: 1,
+            place: 0,
+        }
     }
 }
 
@@ -69,7 +107,7 @@ impl From<PlanRefusal> for PlayerFault {
     ghost from_gives = { λ e p. p ≡ of_plan e };
 
     fn from(refusal: PlanRefusal) -> PlayerFault {
-        PlayerFault::Bridge(Refused::Plan(refusal), 1, 0)
+        PlayerFault::from(Refused::Plan(refusal))
     }
 }
 
@@ -77,7 +115,7 @@ impl From<Refusal> for PlayerFault {
     ghost from_gives = { λ e p. p ≡ of_edge e };
 
     fn from(refusal: Refusal) -> PlayerFault {
-        PlayerFault::Bridge(Refused::Edge(refusal), 1, 0)
+        PlayerFault::from(Refused::Edge(refusal))
     }
 }
 
@@ -86,13 +124,10 @@ impl PlayerFault {
     pub fn at(self, line: usize, place: usize) -> PlayerFault
         ensures { result ≡ placed self line place }
     {
-        match self {
-            PlayerFault::Script(fault) => PlayerFault::Script(Fault {
-                wrong: fault.wrong,
-                line,
-                place,
-            }),
-            PlayerFault::Bridge(refused, _, _) => PlayerFault::Bridge(refused, line, place),
+        PlayerFault {
+            line,
+            place,
+            ..self
         }
     }
 
@@ -100,12 +135,9 @@ impl PlayerFault {
     pub fn layer(self) -> Layer
         ensures { result ≡ fault_layer self }
     {
-        match self {
-            PlayerFault::Script(fault) => match fault.wrong.layer() {
-                ScriptLayer::Words => Layer::Words,
-                ScriptLayer::Sections => Layer::Sections,
-            },
-            PlayerFault::Bridge(_, _, _) => Layer::Bridge,
+        match self.cause {
+            Cause::Script(wrong) => Layer::from(wrong.layer()),
+            Cause::Bridge(_) => Layer::Bridge,
         }
     }
 
@@ -113,29 +145,21 @@ impl PlayerFault {
     pub fn number(self) -> u8
         ensures { result ≡ fault_number self }
     {
-        match self {
-            PlayerFault::Script(fault) => u8::from(fault.wrong),
-            PlayerFault::Bridge(refused, _, _) => refused.number(),
+        match self.cause {
+            Cause::Script(wrong) => u8::from(wrong),
+            Cause::Bridge(refused) => u8::from(refused),
         }
     }
+}
 
-    /// The line, from 1.
-    pub fn line(self) -> usize
-        ensures { result ≡ fault_line self }
-    {
-        match self {
-            PlayerFault::Script(fault) => fault.line,
-            PlayerFault::Bridge(_, line, _) => line,
-        }
-    }
+/// The layer, and the number, line and place in decimal.
+impl fmt::Display for PlayerFault {
+    ghost output = { λ p. Some (fault_text p) };
 
-    /// The place, from 0.
-    pub fn place(self) -> usize
-        ensures { result ≡ fault_place self }
-    {
-        match self {
-            PlayerFault::Script(fault) => fault.place,
-            PlayerFault::Bridge(_, _, place) => place,
-        }
+    fn fmt<W: fmt::Write>(&self, f: &mut fmt::Formatter<W>) -> fmt::Result {
+        let layer = self.layer();
+        let number = self.number();
+        let PlayerFault { line, place, .. } = *self;
+        write!(f, "fault {layer} {number} {line} {place}")
     }
 }

@@ -5,4 +5,3 @@
 pub mod crossing;
 pub mod ending;
 pub mod fault;
-mod print;

@@ -1,29 +1,21 @@
-use Rattle.std.proofs.Common.{◌≡◌, ◌+◌, [], ◌++◌, drop, vec_items, ap, ◌∙◌, append-nil}
-use Rattle.std.proofs.lemmas.List.{at_drop_all}
-use Rattle.transcript.proofs.Lines.{one_more, none_more}
-use Rattle.transcript.specs.Crossings.{edge_lines}
-use Rattle.transcript.proofs.crossing.print_edge.Goals.{in-Some+in_ok-print, in_default}
+use Rattle.std.proofs.lemmas.Iterator.{YieldsList-from_slice}
+use Rattle.std.proofs.lemmas.Iterator.Consumers.{YieldsList-end}
+use Rattle.std.proofs.lemmas.Iterator.Adapters.{YieldsList-from_flatten}
+use Rattle.std.specs.Option.{option_to_list}
+use Rattle.transcript.proofs.There.{gives, there_is}
 use Rattle.transcript.proofs.crossing.print_edge.Goals as goal
-
-pub loop-crossing-preserved : goal.loop-crossing-preserved
-loop-crossing-preserved c =
-    let cs = c.args.crossings.now in
-    let i = c.loop-crossing.crossing-index in
-    let before = vec_items c.loop-crossing.out in
-    let after = vec_items c.match-crossing.out in
-    let n = c.args.edge in
-    let h = c.loop-crossing-test.true in
-    let step : after ++ edge_lines n (drop (i + 1) cs) ≡ before ++ edge_lines n (drop i cs) =
-    elim c.match-crossing.branch [
-      | in-Some+in_ok-print w ↦ one_more n cs i before after h w.in-Some.crossing w.in-Some.is (ap vec_items w.out-is ∙ w.in_ok-print.ensures)
-      | in_default w ↦ none_more n cs i before after h w.in_default.is (ap vec_items w.out-is)
-    ] in
-    step ∙ c.loop-crossing.invariant
 
 pub returns : goal.returns
 returns c =
-    let cs = c.args.crossings.now in
-    let e : edge_lines c.args.edge (drop c.loop-crossing.crossing-index cs) ≡ [] = at_drop_all (edge_lines c.args.edge) cs c.loop-crossing.crossing-index c.loop-crossing-test.false in
-    let n = append-nil (vec_items c.loop-crossing.out) in
+    let f = c.flatten-crossing-items.ensures in
+    let i = c.into_iter-crossing-iterator.ensures.into_iter_gives in
+    let slice = c.iter.ensures.rest in
+    let source = f.source in
+    let front = f.front in
+    let back = f.back in
+    let done = f.done in
+    let road = YieldsList-from_flatten _ _ (λ y. y.now) option_to_list (λ x j h. gives j x.now h.0 h.1) (YieldsList-from_slice c.args.crossings.now (cc)) (cc) (cc) (cc) in
+    let all = (YieldsList-end road c.loop-crossing.yielded _ c.loop-crossing.yielded_by _ _ c.in-None.is c.next.ensures.steps).0 in
+    let e = there_is c.args.crossings.now in
     let h = c.loop-crossing.invariant in
     cc

@@ -1,18 +1,11 @@
-use Rattle.std.proofs.Common.{[], ◌∷◌, vec_items}
-use Rattle.std.proofs.lemmas.Slice.{pushed}
-use Rattle.std.proofs.lemmas.Result.{IfOk-weaker}
-use Rattle.transcript.proofs.Rows.{line_joined}
-use Rattle.transcript.specs.Crossings.{channel, fields}
-use Rattle.transcript.specs.Printing.{numeral, row}
-use Rattle.transcript.specs.declared.print.Base.TheVariants.{Hex}
+use Rattle.std.proofs.Common.{◌≡◌, ◌++◌, List, ℕ, Option, subst, rules}
+use Rattle.std.specs.Option.{IfSome}
+use Rattle.std.specs.Result.{OnOk}
+use Rattle.transcript.proofs.Numbers.{line}
 use Rattle.transcript.proofs.crossing.Crossing.print.Goals as goal
 
 pub returns : goal.returns
 returns c =
-    let before = vec_items c.args.out.now in
-    let n = c.in_ok-number.ensures in
-    let space = pushed (32 ∷ []) n c.in_ok-push.was c.push.ensures.items in
-    let w = c.in_ok-word.ensures in
-    let name = c.name.ensures in
-    let j = line_joined before (numeral Hex c.args.edge) (channel c.args.self) (row Hex (fields c.args.self)) in
-    IfOk-weaker c.print_fields.result _ _ (λ _ h. cc) c.print_fields.ensures
+    let text = line _ c.args.edge c.args.self c.ranges.edge.fits c.in_radix.ensures in
+    let written = subst (λ (z : Option (List ℕ)). OnOk c.writeln.result (IfSome z (λ x. c.writeln.new.self.items ≡ c.args.out.now.items ++ x))) text c.writeln.ensures.bytes in
+    search rules

@@ -1,9 +1,0 @@
-use Rattle.std.proofs.Common.{[], ◌∷◌, vec_items, refl, ◌∙◌, append_assoc}
-use Rattle.std.proofs.lemmas.Slice.{pushed}
-use Rattle.transcript.proofs.print.word.Goals as goal
-
-pub returns : goal.returns
-returns c =
-    let text = c.args.text.now in
-    let a = pushed text refl c.in_ok-extend_from_slice.was c.extend_from_slice.ensures.items in
-    pushed (32 ∷ []) a c.in_ok-push.was c.push.ensures.items ∙ append_assoc (vec_items c.args.out.now) text (32 ∷ [])
