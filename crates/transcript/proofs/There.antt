@@ -28,10 +28,10 @@ gives {A} s o item done =
     subst (YieldsList option_iter_steps (λ (y : Bor A). y.now) s)
     (ap (λ (z : Bool). cond z [] (option_to_list (option_iter_item s))) done ∙ ap option_to_list item)
     (
-      YieldsList-from_shown option_iter_steps (λ (y : Bor A). y.now) left
-      (λ s t h. ended (option_iter_done s) (option_iter_item s) h.1)
-      (λ s x t h. given (option_iter_done s) (option_iter_done t) (option_iter_item s) (option_iter_item t) x h.0 h.1)
-      s
+    YieldsList-from_shown option_iter_steps (λ (y : Bor A). y.now) left
+    (λ s t h. ended (option_iter_done s) (option_iter_item s) h.1)
+    (λ s x t h. given (option_iter_done s) (option_iter_done t) (option_iter_item s) (option_iter_item t) x h.0 h.1)
+    s
     )
 
 pub there_is : (cs : List (Option Crossing)) → flat_map option_to_list cs ≡ there cs

@@ -10,6 +10,6 @@ loop-number-preserved g c =
     let few : slice_index_or vs i 0 < 2 ^ 64 = omega (arith, c.type_inv.numbers i) in
     let text = number _ (slice_index_or vs i 0) few c.in_radix.ensures in
     λ plain.
-        let before = c.loop-number.invariant plain in
-        let added = known _ _ _ _ _ _ text c.write.ensures.writes before.plain (search rules) in
-        has_written_of_eq _ _ _ _ _ (spaced_more vs i c.loop-number-test.true) (has_written_append _ _ _ _ _ _ before added)
+    let before = c.loop-number.invariant plain in
+    let added = known _ _ _ _ _ _ text c.write.ensures.writes before.plain (search rules) in
+    has_written_of_eq _ _ _ _ _ (spaced_more vs i c.loop-number-test.true) (has_written_append _ _ _ _ _ _ before added)

@@ -1,5 +1,4 @@
-use Rattle.std.proofs.Common.{◌≡◌, ℕ, ◌/◌, ◌%◌, ◌^◌, ◌<◌, false, Some, ap, ◌∙◌, List, arith}
-use Rattle.std.specs.Fmt.{digits}
+use Rattle.std.proofs.Common.{◌≡◌, ℕ, ◌/◌, ◌%◌, ◌^◌, ◌<◌, Some, ap, ◌∙◌, List, arith}
 use Rattle.transcript.proofs.Digits.{hex_text}
 use Rattle.transcript.proofs.Numbers.{known}
 use Rattle.transcript.proofs.Wide.{shown}

@@ -1,10 +1,8 @@
-use Rattle.std.proofs.Common.{◌<◌, ◌^◌, arith, append-nil, rules}
+use Rattle.std.proofs.Common.{◌<◌, ◌^◌, arith, append-nil}
 use Rattle.std.proofs.Output.{has_written_of_eq}
 use Rattle.transcript.proofs.Digits.{decimal_text}
 use Rattle.transcript.specs.Printing.{numeral}
 use Rattle.transcript.specs.Printing.Base.{Decimal}
-
-use Rattle.transcript.specs.Faults.{fault_layer, fault_number}
 use Rattle.transcript.proofs.fault.PlayerFaultDisplay.fmt.Goals as goal
 
 pub returns-clause-writes : goal.returns-clause-writes
