@@ -1,5 +1,5 @@
 -- A playing, gate by gate.
-use Rattle.std.proofs.Common.{◌≡◌, ℕ, ◌+◌, List, [], ◌∷◌, ◌++◌, Some, None, Option, sym, refl, ap, ◌∙◌, append_assoc, append-nil}
+use Rattle.std.proofs.Common.{◌≡◌, ℕ, ◌+◌, List, [], ◌∷◌, ◌++◌, Some, None, Ok, Option, sym, refl, ap, ◌∙◌, append_assoc, append-nil}
 use Rattle.std.specs.List.{flat_map}
 use Rattle.axi.specs.Checks.{refused_inputs}
 use Rattle.axi.specs.declared.wires.Refusal.{Refusal}
@@ -12,8 +12,7 @@ use Rattle.transcript.specs.Crossings.{entry_line, edge_lines, there}
 use Rattle.playback.specs.Entries.{Stock, driven}
 use Rattle.playback.specs.Runs.{Line, Played, StateOf, line_bytes, lines_bytes, numbered, preceded, unless, ended_at, crossing_on, state_after, stock_after, machine_of, played, playing, CrossedOver, Ran}
 use Rattle.transcript.specs.declared.crossing.Crossing.{Crossing}
-use Rattle.transcript.specs.declared.ending.Ending.{Ending}
-use Rattle.transcript.specs.declared.ending.Ending.TheVariants.{Owed}
+use Rattle.transcript.specs.Endings.{Ending}
 
 pub lines_append : (xs ys : List Line) → lines_bytes (xs ++ ys) ≡ lines_bytes xs ++ lines_bytes ys
 lines_append [] ys = refl
@@ -67,11 +66,11 @@ turn_bytes n cs p q before after is added =
     ap (λ (z : List ℕ). z ++ rest) added ∙ append_assoc before (edge_lines n cs) rest ∙ ap (λ (z : List ℕ). before ++ z) (sym split)
 
 -- no gate is left
-pub played_none : (σ : Settings) (s : List ℕ) (m : StateOf σ) (e : Stock) (n : ℕ) (o : declared.Owed) → o.writes ≡ (machine_of σ).writes_owed m → o.reads ≡ (machine_of σ).reads_owed m → played σ s m e n [] ≡ record { lines = []; ending = Owed o }
+pub played_none : (σ : Settings) (s : List ℕ) (m : StateOf σ) (e : Stock) (n : ℕ) (o : declared.Owed) → o.writes ≡ (machine_of σ).writes_owed m → o.reads ≡ (machine_of σ).reads_owed m → played σ s m e n [] ≡ record { lines = []; ending = Ok o }
 unfolding played
 played_none σ s m e n o writes reads =
-    ap (λ (w : ℕ). record { lines = []; ending = Owed (record { writes = w; reads = (machine_of σ).reads_owed m }) }) (sym writes)
-    ∙ ap (λ (r : ℕ). record { lines = []; ending = Owed (record { writes = o.writes; reads = r }) }) (sym reads)
+    ap (λ (w : ℕ). record { lines = []; ending = Ok (record { writes = w; reads = (machine_of σ).reads_owed m }) }) (sym writes)
+    ∙ ap (λ (r : ℕ). record { lines = []; ending = Ok (record { writes = o.writes; reads = r }) }) (sym reads)
 
 -- the playing ends here
 pub closed : (p q : Played) (before out : List ℕ) (end : Ending) → out ++ lines_bytes p.lines ≡ before ++ lines_bytes q.lines → p.ending ≡ q.ending → p ≡ record { lines = []; ending = end } → Ran q before out end

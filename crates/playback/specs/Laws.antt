@@ -1,5 +1,5 @@
 -- What holds of every transcript.
-use Rattle.std.specs.Prelude.{◌≡◌, ℕ, ◌≤◌, List, [], ◌∷◌, map, length, Some, None, Ok, Option}
+use Rattle.std.specs.Prelude.{◌≡◌, ℕ, ◌≤◌, List, [], ◌∷◌, map, length, Some, None, Ok, Err, Option}
 use Rattle.axi.specs.Checks.{refused_inputs}
 use Rattle.axi.specs.declared.wires.Beat.{Beat}
 use Rattle.axi.specs.declared.wires.Place.{Place}
@@ -30,10 +30,10 @@ use Rattle.playback.specs.Runs.{Line, Played, StateOf, machine_of, state_after, 
 use Rattle.playback.specs.Transcripts.{performed, planned, four_slots}
 use Rattle.transcript.specs.declared.crossing.Crossing.{Crossing}
 use Rattle.transcript.specs.declared.crossing.Crossing.TheVariants.{Aw, W, B, Ar, R, Law, Lw, Lb, Lar, Lr}
-use Rattle.transcript.specs.declared.ending.Ending.{Ending}
-use Rattle.transcript.specs.declared.ending.Ending.TheVariants.{Owed, Fault}
+use Rattle.transcript.specs.Endings.{Ending}
 use Rattle.transcript.specs.declared.fault.PlayerFault.{PlayerFault}
-use Rattle.transcript.specs.declared.fault.PlayerFault.TheVariants.{Script, Bridge}
+use Rattle.transcript.specs.declared.fault.Cause.{Cause}
+use Rattle.transcript.specs.declared.fault.Cause.TheVariants.{Script, Bridge}
 use Rattle.transcript.specs.declared.fault.Refused.{Refused}
 use Rattle.transcript.specs.declared.fault.Refused.TheVariants.{Plan, Edge}
 
@@ -46,9 +46,12 @@ abbrev pub RefusedAt : List ℕ → Refused → ℕ → Type 0
 RefusedAt s (Plan e) place = place ≡ 0
 RefusedAt s (Edge e) place = GateWord s place
 
+abbrev pub CausedAt : List ℕ → Cause → ℕ → Type 0
+CausedAt s (Script w) place = Unit {0}
+CausedAt s (Bridge e) place = RefusedAt s e place
+
 abbrev pub PlacedAt : List ℕ → PlayerFault → Type 0
-PlacedAt s (Script f) = Unit {0}
-PlacedAt s (Bridge e line place) = RefusedAt s e place
+PlacedAt s f = CausedAt s f.cause f.place
 
 -- a fault's place is a byte of the script or its end, and its line is 1 + the line ends before that
 pub record Points (s : List ℕ) (f : PlayerFault) : Type 0 where
@@ -57,8 +60,8 @@ pub record Points (s : List ℕ) (f : PlayerFault) : Type 0 where
   pub word : PlacedAt s f
 
 abbrev pub EndsIn : List ℕ → Ending → Type 0
-EndsIn s (Owed o) = Unit {0}
-EndsIn s (Fault f) = Points s f
+EndsIn s (Ok o) = Unit {0}
+EndsIn s (Err f) = Points s f
 
 -- a ledger for each channel
 abbrev pub ten : (p : plans.Plan) → List Taken → List Beat → List WriteAnswer → List Taken → List ReadBeat → List Place → List Beat → List ℕ → List Place → List LowerRead → Ledgers (pieces p)

@@ -18,14 +18,12 @@ use Rattle.ledgers.specs.Wires.Call.{edge}
 use Rattle.words.specs.Faults.{line_at}
 use Rattle.sections.specs.Values.{GateAt}
 use Rattle.transcript.specs.Crossings.{entry_line, there}
-use Rattle.transcript.specs.Endings.{ending_line}
+use Rattle.transcript.specs.Endings.{Ending, ending_line}
 use Rattle.playback.specs.Entries.{Stock, driven, left_after}
 use Rattle.transcript.specs.Faults.{of_edge, placed}
 use Rattle.transcript.specs.declared.crossing.Crossing.{Crossing}
 use Rattle.transcript.specs.declared.crossing.Crossing.TheVariants.{Aw, W, B, Ar, R, Law, Lw, Lb, Lar, Lr}
-use Rattle.transcript.specs.declared.ending.Ending.{Ending}
 use Rattle.transcript.specs.declared.fault.PlayerFault.{PlayerFault}
-use Rattle.transcript.specs.declared.ending.Ending.TheVariants.{Owed, Fault}
 
 -- a line of the transcript: the number of the edge, and what crossed
 pub record Line : Type 0 where
@@ -89,7 +87,7 @@ abbrev pub refused_at : List ℕ → ℕ → Refusal → PlayerFault
 refused_at s place e = placed (of_edge e) (line_at s place) place
 
 abbrev pub ended_at : List ℕ → ℕ → Refusal → Played
-ended_at s place e = record { lines = []; ending = Fault (refused_at s place e) }
+ended_at s place e = record { lines = []; ending = Err (refused_at s place e) }
 
 abbrev pub preceded : List Line → Played → Played
 preceded ls p = record { lines = ls ++ p.lines; ending = p.ending }
@@ -100,7 +98,7 @@ unless (Some e) refused more = refused e
 
 -- the gates that are left, in the script s: from a state, with these entries, from edge n on
 unfoldable pub played : (σ : Settings) → List ℕ → StateOf σ → Stock → ℕ → List GateAt → Played
-played σ s m e n [] = record { lines = []; ending = Owed (record { writes = (machine_of σ).writes_owed m; reads = (machine_of σ).reads_owed m }) }
+played σ s m e n [] = record { lines = []; ending = Ok (record { writes = (machine_of σ).writes_owed m; reads = (machine_of σ).reads_owed m }) }
 played σ s m e n (g ∷ gs) =
     let x = driven e g.bits in
     unless (refused_inputs σ.plan x) (ended_at s g.place)

@@ -16,7 +16,6 @@ use Rattle.words.specs.declared.fault.Fault as script_fault
 use Rattle.script.specs.declared.script.Script as script_read
 use Rattle.transcript.specs.Faults.{of_script, of_plan}
 use Rattle.playback.specs.Runs.{Played, played, played_bytes}
-use Rattle.transcript.specs.declared.ending.Ending.TheVariants.{Fault}
 use Rattle.transcript.specs.declared.fault.PlayerFault.{PlayerFault}
 
 -- the plan that U, L and level stand for
@@ -48,7 +47,7 @@ played_through s c p = played (four_slots p) s (made (pieces p) (joining p)) (re
 
 -- a fault before the first edge
 abbrev pub not_played : PlayerFault → Played
-not_played f = record { lines = []; ending = Fault f }
+not_played f = record { lines = []; ending = Err f }
 
 abbrev pub by_plan : List ℕ → Contents → Result Plan PlanRefusal → Played
 by_plan s c (Ok p) = played_through s c p

@@ -13,7 +13,7 @@ use bridge::bridge::Bridge;
 use bridge::slots::Slots;
 use script::script::Script;
 use std::alloc::{AllocError, Global};
-use transcript::ending::Ending;
+use transcript::ending::{Ending, print_ending};
 use transcript::fault::PlayerFault;
 
 /// What a script's playing prints, and how it ends.
@@ -55,7 +55,7 @@ fn perform(bytes: &[u8], out: &mut Vec<u8>) -> Result<Ending, AllocError>
 {
     match prepare(bytes) {
         Ok((plan, script)) => run_script(plan, script, out),
-        Err(fault) => Ok(Ending::Fault(fault)),
+        Err(fault) => Ok(Err(fault)),
     }
 }
 
@@ -66,7 +66,7 @@ fn print(heap: Global, script: &[u8]) -> Result<Transcript, AllocError>
 {
     let mut bytes = Vec::new(heap);
     let ending = perform(script, &mut bytes)?;
-    ending.print(&mut bytes)?;
+    print_ending(&mut bytes, ending)?;
     Ok(Transcript { bytes, ending })
 }
 

@@ -56,9 +56,9 @@ impl<'b, 's> Bench<'b, 's> {
         for (edge, gate) in section.enumerate() {
             match self.step(gate.bits) {
                 Ok(crossings) => print_edge(out, edge as u64, &crossings)?,
-                Err(refusal) => return Ok(Ending::Fault(fault_at(refusal, gate.at))),
+                Err(refusal) => return Ok(Err(fault_at(refusal, gate.at))),
             }
         }
-        Ok(Ending::Owed(self.bridge.owed()))
+        Ok(Ok(self.bridge.owed()))
     }
 }

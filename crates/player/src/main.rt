@@ -13,7 +13,6 @@ use playback::play::play;
 use std::io::{Read, Write};
 use std::process::ExitCode;
 use std::{env, fs, io};
-use transcript::ending::Ending;
 
 const USAGE: &str = "usage: player [FILE]
 
@@ -60,10 +59,8 @@ fn fill_from<'a>(rt: &HostRuntime, path: &str, buffer: &'a mut [u8; ROOM]) -> io
 fn print(rt: &HostRuntime, script: &[u8]) -> Result<(), Failure<Stop>> {
     let transcript = play(rt.alloc(), script).map_err(|_| Failure::Own(Stop::Memory))?;
     rt.stdout().write_all(transcript.bytes.as_slice())?;
-    match transcript.ending {
-        Ending::Owed(_) => Ok(()),
-        Ending::Fault(_) => Err(Failure::Own(Stop::Fault)),
-    }
+    transcript.ending.map_err(|_| Failure::Own(Stop::Fault))?;
+    Ok(())
 }
 
 /// Plays the script in the file of this name.

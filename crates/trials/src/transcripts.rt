@@ -2,7 +2,6 @@
 use playback::play::play;
 use std::process::Abort;
 use std::test::Fail;
-use transcript::ending::Ending;
 
 /// A script that owes nothing at its end.
 const EMPTY: &[u8] = b"bridge 8 4 0\nwrites 0\nbeats 0\nreads 0\nwcodes 0\nrparts 0\ngates 0\n";
@@ -117,7 +116,7 @@ fn cut_anywhere(rt: HostRuntime) -> Result<(), Fail> {
     for end in 0..WRITE.len() {
         let played = play(rt.alloc(), &WRITE[0..end])?;
         assert!(rt; played.bytes.as_slice().starts_with(b"fault "));
-        assert!(rt; matches!(played.ending, Ending::Fault(_)));
+        assert!(rt; played.ending.is_err());
     }
     Ok(())
 }
@@ -135,7 +134,7 @@ fn changed(rt: &HostRuntime, place: usize) -> Result<Vec<u8>, Fail> {
 fn changed_anywhere(rt: HostRuntime) -> Result<(), Fail> {
     for place in 0..WRITE.len() {
         let played = play(rt.alloc(), changed(&rt, place)?.as_slice())?;
-        assert!(rt; matches!(played.ending, Ending::Fault(_)));
+        assert!(rt; played.ending.is_err());
         assert!(rt; played.bytes.as_slice().starts_with(b"fault "));
     }
     Ok(())

@@ -3,7 +3,7 @@ use Rattle.std.proofs.lemmas.Result.{IfOk-weaker}
 use Rattle.playback.proofs.Ledgered.{kept_ledgers}
 use Rattle.playback.proofs.Pointed.{ends_in}
 use Rattle.playback.specs.Laws.{EndsIn}
-use Rattle.transcript.specs.declared.ending.Ending.{Ending}
+use Rattle.transcript.specs.Endings.{Ending}
 use Rattle.playback.proofs.play.play.Goals as goal
 
 pub returns : goal.returns

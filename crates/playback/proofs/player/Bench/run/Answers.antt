@@ -1,4 +1,4 @@
-use Rattle.std.proofs.Common.{◌≡◌, ◌+◌, [], ◌++◌, vec_items, sym, ap, ◌∙◌}
+use Rattle.std.proofs.Common.{◌≡◌, ◌+◌, [], ◌++◌, vec_items, Ok, Err, sym, ap, ◌∙◌}
 use Rattle.bridge.specs.Edges.{settings}
 use Rattle.bridge.specs.Machines.{seen}
 use Rattle.sections.specs.Sections.{section_text}
@@ -7,7 +7,6 @@ use Rattle.playback.proofs.Playing.{played_off, played_none, turn, turn_bytes, c
 use Rattle.transcript.specs.Crossings.{edge_lines, there}
 use Rattle.playback.specs.Entries.{stock}
 use Rattle.playback.specs.Runs.{Played, numbered, preceded, playing, refused_at}
-use Rattle.transcript.specs.declared.ending.Ending.TheVariants.{Owed, Fault}
 use Rattle.transcript.specs.declared.fault.PlayerFault.{PlayerFault}
 use Rattle.playback.proofs.player.Bench.run.Goals as goal
 
@@ -26,13 +25,13 @@ returns-in-Err c =
     let f = c.fault_at.result in
     let fault : f ≡ refused_at s g.at.at r = c.fault_at.ensures ∙ ap (λ z. refused_at z g.at.at r) given.inside in
     let p = playing b e s n (gates left) in
-    let is : p ≡ record { lines = []; ending = Fault f } =
+    let is : p ≡ record { lines = []; ending = Err f } =
     ap (playing b e s n) given.taken
     ∙ played_off (settings b) s (seen b.plan b) e n (gate_at g) (gates c.next.new.self.iter) r c.in-Err.ensures.edge
-    ∙ ap (λ (z : PlayerFault). record { lines = []; ending = Fault z }) (sym fault) in
+    ∙ ap (λ (z : PlayerFault). record { lines = []; ending = Err z }) (sym fault) in
     closed p
     (playing c.args.self.now.bridge (stock c.args.self.now.entries) (section_text c.args.section) 0 (gates c.args.section))
-    (vec_items c.args.out.now) (vec_items c.loop-edge.out) (Fault f) i.2 i.3 is
+    (vec_items c.args.out.now) (vec_items c.loop-edge.out) (Err f) i.2 i.3 is
 
 pub loop-edge-preserved : goal.loop-edge-preserved
 unfolding gates
@@ -69,9 +68,9 @@ returns c =
     let n = c.loop-edge.edge-iterator.count in
     let i = c.loop-edge.invariant in
     let p = playing b e s n (gates left) in
-    let is : p ≡ record { lines = []; ending = Owed c.owed.result } =
+    let is : p ≡ record { lines = []; ending = Ok c.owed.result } =
     ap (playing b e s n) c.in-None.ensures.steps.0.taken.0
     ∙ played_none (settings b) s (seen b.plan b) e n c.owed.result c.owed.ensures.writes c.owed.ensures.reads in
     closed p
     (playing c.args.self.now.bridge (stock c.args.self.now.entries) (section_text c.args.section) 0 (gates c.args.section))
-    (vec_items c.args.out.now) (vec_items c.loop-edge.out) (Owed c.owed.result) i.2 i.3 is
+    (vec_items c.args.out.now) (vec_items c.loop-edge.out) (Ok c.owed.result) i.2 i.3 is
