@@ -1,7 +1,9 @@
 //! Every refusal, and damaged scripts.
+use bridge::bridge::Owed;
 use playback::play::play;
 use std::process::Abort;
 use std::test::Fail;
+use transcript::ending::print_ending;
 
 /// A script that owes nothing at its end.
 const EMPTY: &[u8] = b"bridge 8 4 0\nwrites 0\nbeats 0\nreads 0\nwcodes 0\nrparts 0\ngates 0\n";
@@ -138,4 +140,34 @@ fn changed_anywhere(rt: HostRuntime) -> Result<(), Fail> {
         assert!(rt; played.bytes.as_slice().starts_with(b"fault "));
     }
     Ok(())
+}
+
+/// The last line of a playing that owes this much is this one.
+fn owes(
+    rt: &(impl Abort + AllocGlobal),
+    writes: u128,
+    reads: u128,
+    line: &[u8],
+) -> Result<(), Fail> {
+    let mut bytes = Vec::new(rt.alloc());
+    print_ending(&mut bytes, Ok(Owed { writes, reads }))?;
+    assert!(rt; bytes.as_slice() == line);
+    Ok(())
+}
+
+#[test]
+fn owes_any_count(rt: HostRuntime) -> Result<(), Fail> {
+    owes(&rt, 0, 16, b"owed 0 10\n")?;
+    owes(
+        &rt,
+        0xffff_ffff_ffff_ffff,
+        0x1_0000_0000_0000_0000,
+        b"owed ffffffffffffffff 10000000000000000\n",
+    )?;
+    owes(
+        &rt,
+        0x1_0000_0000_0000_000a,
+        0xfedc_ba98_7654_3210_0123_4567_89ab_cdef,
+        b"owed 1000000000000000a fedcba98765432100123456789abcdef\n",
+    )
 }
