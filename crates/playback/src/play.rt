@@ -53,6 +53,7 @@ fn run_script(plan: Plan, script: Script, out: &mut Vec<u8>) -> Result<Ending, A
 fn perform(bytes: &[u8], out: &mut Vec<u8>) -> Result<Ending, AllocError>
     ensures { IfOk result (λ end. Ran (performed bytes.now) out.old.items out.new.items end) }
 {
+    // A fault still has a transcript, want of memory has none: `?` passes only the second.
     match prepare(bytes) {
         Ok((plan, script)) => run_script(plan, script, out),
         Err(fault) => Ok(Err(fault)),

@@ -54,6 +54,7 @@ impl<'b, 's> Bench<'b, 's> {
         ensures { IfOk result (λ end. Ran (playing self.old.bridge (stock self.old.entries) (section_text section.entry) 0 (gates section.entry)) out.old.items out.new.items end) }
     {
         for (edge, gate) in section.enumerate() {
+            // A refused edge ends the lines, want of memory the call: `?` passes only the second.
             match self.step(gate.bits) {
                 Ok(crossings) => print_edge(out, edge as u64, &crossings)?,
                 Err(refusal) => return Ok(Err(fault_at(refusal, gate.at))),

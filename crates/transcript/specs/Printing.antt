@@ -1,5 +1,5 @@
 -- Numbers and lines of a transcript, as bytes.
-use Rattle.std.specs.Prelude.{ℕ, ◌+◌, cond, List, [], ◌∷◌, ◌++◌, map, ◌==◌, nat_lt}
+use Rattle.std.specs.Prelude.{◌≡◌, ℕ, ◌+◌, cond, List, [], ◌∷◌, ◌++◌, map, ◌==◌, nat_lt, Result, OnOk}
 use Rattle.std.specs.List.{flat_map}
 use Rattle.std.specs.Int.Digits.{digits_of as digitsOf}
 
@@ -37,3 +37,7 @@ row base (v ∷ vs) = numeral base v ++ (separator_to vs ∷ row base vs)
 -- the numbers of a line, with a space before each
 abbrev pub spaced : Base → List ℕ → List ℕ
 spaced base vs = flat_map (λ v. 32 ∷ numeral base v) vs
+
+-- a call that succeeds writes this text after what is there
+abbrev pub Writes : {E : Type 0} → Result (Unit {0}) E → List ℕ → List ℕ → List ℕ → Type 0
+Writes r before after text = OnOk r (after ≡ before ++ text)

@@ -1,9 +1,9 @@
 //! What crosses on an edge, and its lines in a transcript.
 ghost use Rattle.std.specs.Fmt.{WritesOnOk};
-ghost use Rattle.transcript.specs.Printing.{spaced};
+ghost use Rattle.transcript.specs.Printing.{Writes, spaced};
 ghost use Rattle.transcript.specs.Printing.Base.{Hex};
 ghost use Rattle.transcript.specs.Crossings.{channel, fields, crossing_text, entry_line, edge_lines, verdict_told, edge_crossings};
-ghost use Rattle.std.specs.Prelude.{◌≡◌, ◌++◌, OnOk, Some};
+ghost use Rattle.std.specs.Prelude.{◌≡◌, Some};
 
 use axi::verdict::Verdict;
 use axi::wires::{Beat, Inputs, LowerRead, Outputs, Place, ReadBeat, WriteAnswer};
@@ -98,7 +98,7 @@ impl Crossing {
 
     /// The line of a crossing: the edge, the channel and the fields.
     pub fn print(self, out: &mut Vec<u8>, edge: u64) -> Result<(), AllocError>
-        ensures { OnOk result (out.new.items ≡ out.old.items ++ entry_line edge self) }
+        ensures { Writes result out.old.items out.new.items (entry_line edge self) }
     {
         writeln!(out, "{edge:x} {self}").map_err(|_| AllocError)
     }
@@ -147,7 +147,7 @@ pub fn print_edge(
     edge: u64,
     crossings: &[Option<Crossing>],
 ) -> Result<(), AllocError>
-    ensures { OnOk result (out.new.items ≡ out.old.items ++ edge_lines edge crossings.now) }
+    ensures { Writes result out.old.items out.new.items (edge_lines edge crossings.now) }
 {
     for crossing in crossings.iter().flatten() {
         crossing.print(out, edge)?;

@@ -1,8 +1,8 @@
 //! The last line of a transcript.
 ghost use Rattle.transcript.specs.Endings.{ending_line};
-ghost use Rattle.transcript.specs.Printing.{numeral};
+ghost use Rattle.transcript.specs.Printing.{Writes, numeral};
 ghost use Rattle.transcript.specs.Printing.Base.{Hex};
-ghost use Rattle.std.specs.Prelude.{◌≡◌, ◌++◌, OnOk, Some};
+ghost use Rattle.std.specs.Prelude.{Some};
 
 use crate::fault::PlayerFault;
 use bridge::bridge::Owed;
@@ -37,7 +37,7 @@ impl fmt::Display for Count {
 
 /// The last line.
 pub fn print_ending(out: &mut Vec<u8>, ending: Ending) -> Result<(), AllocError>
-    ensures { OnOk result (out.new.items ≡ out.old.items ++ ending_line ending) }
+    ensures { Writes result out.old.items out.new.items (ending_line ending) }
 {
     let printed = match ending {
         Ok(owed) => writeln!(out, "owed {} {}", Count(owed.writes), Count(owed.reads)),

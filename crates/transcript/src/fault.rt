@@ -32,11 +32,11 @@ impl fmt::Display for Layer {
     ghost output = { λ l. Some (layer_name l) };
 
     fn fmt<W: fmt::Write>(&self, f: &mut fmt::Formatter<W>) -> fmt::Result {
-        match self {
-            Layer::Words => write!(f, "words"),
-            Layer::Sections => write!(f, "sections"),
-            Layer::Bridge => write!(f, "bridge"),
-        }
+        f.write_str(match self {
+            Layer::Words => "words",
+            Layer::Sections => "sections",
+            Layer::Bridge => "bridge",
+        })
     }
 }
 
