@@ -11,11 +11,13 @@ use Rattle.listing.specs.declared.refusal.Refusal.{Refusal}
 use Rattle.listing.specs.declared.refusal.Refusal.TheVariants.{Words, Plan, Field}
 use Rattle.sections.specs.Lines.{bridge_line, burst_line}
 use Rattle.sections.specs.declared.line.Settings.{Settings}
+use Rattle.words.specs.Cursors.{text}
 use Rattle.words.specs.Faults.{line_at}
 use Rattle.words.specs.Numbers.{is_number}
 use Rattle.words.specs.Reading.{Read}
 use Rattle.words.specs.Reading.Read.{got, stop}
 use Rattle.words.specs.Words.{word}
+use Rattle.words.specs.declared.cursor.Cursor.{Cursor}
 
 -- a line of a plan begins with a keyword
 abbrev pub begins : Read (List ℕ) → Bool
@@ -68,6 +70,21 @@ LineTold true plan s at after (Err e) = PlanTold (bridge_line s at) (line_at s a
 LineTold false plan s at after (Ok (Bridge p)) = ⊥
 LineTold false plan s at after (Ok (Burst p b)) = (p ≡ plan) × BurstTold (burst_line s at) (line_at s at) after (Ok b)
 LineTold false plan s at after (Err e) = BurstTold (burst_line s at) (line_at s at) after (Err e)
+
+-- a call that reads a line at a cursor: the list stays, and the call tells what the line comes to
+pub record Tells {X : Type 0} (line : List ℕ → ℕ → ℕ → Result X Refusal → Type 0) (before after : Cursor) (r : Result X Refusal) : Type 0 where
+  pub same : text after ≡ text before
+  pub told : line (text before) before.at after.at r
+
+-- the line at a place, read as a plan, as a burst, and as what it begins with
+abbrev pub plan_at : List ℕ → ℕ → ℕ → Result plans.Plan Refusal → Type 0
+plan_at s at after r = PlanTold (bridge_line s at) (line_at s at) after r
+
+abbrev pub burst_at : List ℕ → ℕ → ℕ → Result bursts.Burst Refusal → Type 0
+burst_at s at after r = BurstTold (burst_line s at) (line_at s at) after r
+
+abbrev pub item_at : plans.Plan → List ℕ → ℕ → ℕ → Result Item Refusal → Type 0
+item_at plan s at after r = LineTold (keyword_next s at) plan s at after r
 
 -- the plan in force after a line
 abbrev pub in_force : Item → plans.Plan

@@ -6,7 +6,7 @@ use axi::burst::Burst;
 use axi::plan::Plan;
 
 /// What a line says.
-#[derive(Clone, Copy)]
+#[derive(Clone, Copy, Debug, PartialEq, Eq)]
 pub enum Item {
     /// The plan for the bursts that follow.
     Bridge(Plan),

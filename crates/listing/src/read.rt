@@ -1,11 +1,10 @@
 //! Reading a list.
-ghost use Rattle.listing.specs.Items.{keyword_next, PlanMade, PlanTold, BurstTold, LineTold};
+ghost use Rattle.listing.specs.Items.{keyword_next, PlanMade, Tells, plan_at, burst_at, item_at};
+ghost use Rattle.listing.specs.Lists.{Says, Refuses};
 ghost use Rattle.listing.specs.declared.refusal.Refusal.TheVariants.{Field};
 ghost use Rattle.axi.specs.Bursts.{burst_fits};
-ghost use Rattle.sections.specs.Lines.{bridge_line, burst_line};
-ghost use Rattle.std.specs.Prelude.{◌≡◌, if◌then◌else◌, Ok, Err};
+ghost use Rattle.std.specs.Prelude.{◌≡◌, if◌then◌else◌, Ok, Err, MatchResult};
 ghost use Rattle.words.specs.Cursors.{text};
-ghost use Rattle.words.specs.Faults.{line_at};
 
 use crate::item::Item;
 use crate::refusal::{ListFault, Refusal};
@@ -28,27 +27,19 @@ fn at_keyword(mut cursor: Cursor) -> bool
 fn plan_of(settings: Settings, line: usize) -> Result<Plan, Refusal>
     ensures { PlanMade settings line result }
 {
-    match Plan::try_from(settings) {
-        Ok(plan) => Ok(plan),
-        Err(refusal) => Err(Refusal::Plan(refusal, line)),
-    }
+    Plan::try_from(settings).map_err(|refusal| Refusal::Plan(refusal, line))
 }
 
 /// The burst of this line, if its wires can carry every field.
 fn fitting(burst: Burst, line: usize) -> Result<Burst, Refusal>
     ensures { result ≡ (if burst_fits burst then Ok burst else Err (Field line)) }
 {
-    if burst.fits() {
-        Ok(burst)
-    } else {
-        Err(Refusal::Field(line))
-    }
+    burst.fits().then_some(burst).ok_or(Refusal::Field(line))
 }
 
 /// The plan of a line, which the cursor passes.
 fn plan_line(cursor: &mut Cursor) -> Result<Plan, Refusal>
-    ensures same { text cursor.new ≡ text cursor.old }
-    ensures told { PlanTold (bridge_line (text cursor.old) cursor.old.at) (line_at (text cursor.old) cursor.old.at) cursor.new.at result }
+    ensures { Tells plan_at cursor.old cursor.new result }
 {
     let line = cursor.line();
     plan_of(Settings::read(cursor)?, line)
@@ -56,8 +47,7 @@ fn plan_line(cursor: &mut Cursor) -> Result<Plan, Refusal>
 
 /// The burst of a line, which the cursor passes.
 fn burst_line(cursor: &mut Cursor) -> Result<Burst, Refusal>
-    ensures same { text cursor.new ≡ text cursor.old }
-    ensures told { BurstTold (burst_line (text cursor.old) cursor.old.at) (line_at (text cursor.old) cursor.old.at) cursor.new.at result }
+    ensures { Tells burst_at cursor.old cursor.new result }
 {
     let line = cursor.line();
     fitting(Burst::read(cursor)?, line)
@@ -65,8 +55,7 @@ fn burst_line(cursor: &mut Cursor) -> Result<Burst, Refusal>
 
 /// What a line says under the plan in force: a plan if it begins with a keyword, otherwise a burst.
 pub fn read_line(plan: Plan, cursor: &mut Cursor) -> Result<Item, Refusal>
-    ensures same { text cursor.new ≡ text cursor.old }
-    ensures told { LineTold (keyword_next (text cursor.old) cursor.old.at) plan (text cursor.old) cursor.old.at cursor.new.at result }
+    ensures { Tells (item_at plan) cursor.old cursor.new result }
 {
     if at_keyword(*cursor) {
         Ok(Item::Bridge(plan_line(cursor)?))
@@ -76,7 +65,9 @@ pub fn read_line(plan: Plan, cursor: &mut Cursor) -> Result<Item, Refusal>
 }
 
 /// What each line of the list says, or why the first bad one is refused. The first line is a plan.
-pub fn read_items(heap: Global, list: &[u8]) -> Result<Vec<Item>, ListFault> {
+pub fn read_items(heap: Global, list: &[u8]) -> Result<Vec<Item>, ListFault>
+    ensures { MatchResult result (λ v. Says list.now v.items) (λ e. Refuses list.now e) }
+{
     let mut items = Vec::new(heap);
     let mut cursor = Cursor::new(list);
     let mut plan = plan_line(&mut cursor)?;

@@ -9,7 +9,7 @@ use std::fmt;
 use words::fault::{Fault, Wrong};
 
 /// Why a line is refused.
-#[derive(Clone, Copy)]
+#[derive(Clone, Copy, Debug, PartialEq, Eq)]
 pub enum Refusal {
     /// Not the due word or separator, a number that is too large, or the end of the list.
     Words(Fault),
@@ -20,7 +20,7 @@ pub enum Refusal {
 }
 
 /// Why a list is refused.
-#[derive(Clone, Copy)]
+#[derive(Clone, Copy, Debug, PartialEq, Eq)]
 pub enum ListFault {
     /// A line is refused.
     Line(Refusal),
@@ -45,76 +45,42 @@ impl From<Refusal> for ListFault {
 }
 
 impl From<AllocError> for ListFault {
+    ghost from_gives = { λ _ x. x ≡ NoMemory };
+
     fn from(_error: AllocError) -> ListFault {
         ListFault::NoMemory
     }
 }
 
 impl<T: Drop> From<AllocFailed<T>> for ListFault {
+    ghost from_gives = { λ _ x. x ≡ NoMemory };
+
     fn from(_refused: AllocFailed<T>) -> ListFault {
         ListFault::NoMemory
     }
 }
 
-/// A fault of the words in words.
-#[derive(Clone, Copy)]
-struct Why(Wrong);
-
-impl fmt::Display for Why {
-    fn fmt<W: fmt::Write>(&self, f: &mut fmt::Formatter<W>) -> fmt::Result {
-        match self.0 {
-            Wrong::NotDue => write!(
-                f,
-                "not the due word or separator; expected 'bridge U L level', or after that 'ID ADDR LEN SIZE BURST LOCK CACHE PROT', with digits 0-9 a-f and one space between words"
-            ),
-            Wrong::TooLarge => write!(
-                f,
-                "the number is too large; expected at most ffff for ID, ffffffff for ADDR, ff for any other"
-            ),
-            Wrong::EndsEarly => write!(
-                f,
-                "the input ends too early; expected a plan and whole lines, each ended by byte 0a"
-            ),
-            Wrong::TooLong | Wrong::Trailing => write!(f, "the input is refused"),
-        }
-    }
-}
-
-/// A plan's refusal in words.
-#[derive(Clone, Copy)]
-struct NoPlan(PlanRefusal);
-
-impl fmt::Display for NoPlan {
-    fn fmt<W: fmt::Write>(&self, f: &mut fmt::Formatter<W>) -> fmt::Result {
-        match self.0 {
-            PlanRefusal::Width => write!(
-                f,
-                "refusal 1, a bus is neither 4 nor 8 bytes wide; expected 4 or 8 for U and L"
-            ),
-            PlanRefusal::LowerAboveUpper => write!(
-                f,
-                "refusal 2, the lower bus is wider than the upper one; expected L at most U"
-            ),
-            PlanRefusal::Level => write!(
-                f,
-                "refusal 3, there is no such level; expected 0, 1 or 2"
-            ),
-        }
+/// What is expected in a list in place of what is wrong.
+fn expected(wrong: Wrong) -> &'static str {
+    match wrong {
+        Wrong::NotDue =>
+            "; expected 'bridge U L level', or after that 'ID ADDR LEN SIZE BURST LOCK CACHE PROT', with digits 0-9 a-f and one space between words",
+        Wrong::TooLarge => "; expected at most ffff for ID, ffffffff for ADDR, ff for any other",
+        Wrong::EndsEarly => "; expected a plan and whole lines, each ended by byte 0a",
+        Wrong::TooLong | Wrong::Trailing => "",
     }
 }
 
 impl fmt::Display for Refusal {
     fn fmt<W: fmt::Write>(&self, f: &mut fmt::Formatter<W>) -> fmt::Result {
         match *self {
-            Refusal::Words(fault) => {
-                let line = fault.line;
-                let place = fault.place;
-                let why = Why(fault.wrong);
-                write!(f, "line {line}, byte {place}: {why}")
+            Refusal::Words(Fault { wrong, line, place }) => {
+                let expected = expected(wrong);
+                write!(f, "line {line}, byte {place}: {wrong}{expected}")
             }
             Refusal::Plan(refusal, line) => {
-                let why = NoPlan(refusal);
-                write!(f, "line {line}: {why}")
+                let number = u8::from(refusal);
+                write!(f, "line {line}: refusal {number}, {refusal}")
             }
             Refusal::Field(line) => write!(
                 f,
