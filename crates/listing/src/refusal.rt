@@ -60,7 +60,7 @@ impl<T: Drop> From<AllocFailed<T>> for ListFault {
     }
 }
 
-/// What is expected in a list in place of what is wrong.
+/// What is expected in place of what is wrong. Only a list expects it, so `Wrong` does not say it.
 fn expected(wrong: Wrong) -> &'static str {
     match wrong {
         Wrong::NotDue =>

@@ -30,6 +30,7 @@ pub(crate) fn value(word: &[u8]) -> Option<u64>
     if word.len() > DIGITS {
         return None;
     }
+    // A loop, since the bound on the sum so far has no proof in a `fold`.
     let mut v = 0u64;
     for b in word {
         v = v * 16 + u64::from(digit(*b)?);
