@@ -5,7 +5,7 @@ ghost use Rattle.words.specs.Reading.{ReadsAs};
 ghost use Rattle.script.specs.Scripts.{script, master, block, edges, master_left, block_left, Reads};
 ghost use Rattle.sections.specs.Sections.{section_text};
 ghost use Rattle.sections.specs.Values.{gates};
-ghost use Rattle.std.specs.Prelude.{◌≡◌, length, IfOk, nat_le};
+ghost use Rattle.std.specs.Prelude.{◌≡◌, IfOk};
 
 use crate::script::{Block, Master, Script};
 use sections::line::Settings;
@@ -15,13 +15,6 @@ use words::fault::{Fault, Wrong};
 
 /// The largest length of a script.
 const LIMIT: usize = 16_384;
-
-/// Whether a script is short enough.
-fn short(bytes: &[u8]) -> bool
-    ensures { result ≡ nat_le (length bytes.now) 16384 }
-{
-    bytes.len() <= LIMIT
-}
 
 impl<'a> Master<'a> {
     /// The sections of the master, which the cursor passes.
@@ -69,7 +62,7 @@ impl<'a> Script<'a> {
         ensures inside { IfOk result (λ x. section_text x.gates ≡ bytes.now) }
     {
         let mut cursor = Cursor::new(bytes);
-        if !short(bytes) {
+        if bytes.len() > LIMIT {
             return Err(cursor.fault(Wrong::TooLong));
         }
         Ok(Script {
