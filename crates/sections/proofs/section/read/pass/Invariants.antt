@@ -1,11 +1,12 @@
-use Rattle.std.proofs.Common.{◌≡◌}
+use Rattle.std.proofs.Common.{◌≡◌, ◌-◌, List}
 use Rattle.words.specs.Cursors.{text}
-use Rattle.words.specs.Reading.Read.{got}
-use Rattle.sections.specs.Sections.{rows, rows_left}
+use Rattle.sections.proofs.Rows.{behind}
+use Rattle.sections.specs.Sections.{Row, rows}
 use Rattle.sections.proofs.section.read.pass.Given as goal
 
+-- the lines that were passed, and those that are to come, are all of them
 abbrev pub invariant-loop : goal.invariant-loop
 invariant-loop g l =
     let cs = g.T.Entry.carriers in
     let s = text l.initial.cursor in
-    (text l.cursor ≡ s) × (rows cs l.counter s l.initial.cursor.at ≡ got (rows_left cs l.counter s l.initial.cursor.at) l.cursor.at)
+    (text l.cursor ≡ s) × ((xs : List Row) × (rows cs l.count s l.initial.cursor.at ≡ behind xs (rows cs (l.count - l.counter) s l.cursor.at)))
