@@ -1,5 +1,8 @@
 //! Each refusal with its line and place, and what a script holds.
+use axi::plan::{Level, Plan, PlanRefusal, Widths};
 use script::script::Script;
+use sections::line::Settings;
+use sections::section::{Gate, Section};
 use std::process::Abort;
 use std::test::Fail;
 use words::fault::{Fault, Layer, Wrong};
@@ -154,8 +157,46 @@ fn gates(rt: HostRuntime) -> Result<(), Fail> {
     let _ = script.gates.next();
     let gate = script.gates.next().ok_or("no gate")?;
     assert_eq!(rt;
-        (gate.bits, gate.at.line(), gate.at.place(), script.settings.upper),
+        (
+            gate.bits,
+            gate.at.line(),
+            gate.at.place(),
+            script.settings.upper
+        ),
         (1, 14, 119, 8)
     );
+    Ok(())
+}
+
+/// Passes where the gates are 3ff and 1.
+fn in_order<'a>(rt: &impl Abort, gates: Section<'a, Gate<'a>>) {
+    for (edge, gate) in gates.enumerate() {
+        assert_eq!(rt; gate.bits, if edge == 0 { 0x3ff } else { 1 });
+    }
+}
+
+#[test]
+fn one_after_the_other(rt: HostRuntime) -> Result<(), Fail> {
+    let script = full()?;
+    in_order(&rt, script.gates);
+    assert_eq!(rt; script.block.wcodes.count(), 2);
+    assert_eq!(rt; script.master.reads.count(), 0);
+    Ok(())
+}
+
+#[test]
+fn plan_of_the_first_line(rt: HostRuntime) -> Result<(), Fail> {
+    let settings = full()?.settings;
+    let plan = Plan {
+        widths: Widths::EightOverFour,
+        level: Level::FullConversion,
+    };
+    assert_eq!(rt; Plan::try_from(settings), Ok(plan));
+    let swapped = Settings {
+        upper: settings.lower,
+        lower: settings.upper,
+        ..settings
+    };
+    assert_eq!(rt; Plan::try_from(swapped), Err(PlanRefusal::LowerAboveUpper));
     Ok(())
 }
