@@ -97,6 +97,7 @@ impl Crossing {
     }
 
     /// The line of a crossing: the edge, the channel and the fields.
+    #[tactic(auto, using(crate::proofs::Numbers::line))]
     pub fn print(self, out: &mut Vec<u8>, edge: u64) -> Result<(), AllocError>
         ensures { Writes result out.old.items out.new.items (entry_line edge self) }
     {
