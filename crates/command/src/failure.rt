@@ -5,7 +5,7 @@ ghost use Rattle.command.specs.declared.failure.Failure.TheVariants.{Io};
 use std::{fmt, io};
 
 /// Why a program fails that reads a file or standard input. `E` has the reasons of its own.
-#[derive(Drop)]
+#[derive(Debug, Drop)]
 pub enum Failure<E> {
     /// The file of this name cannot be read.
     Unreadable(String, io::Error),
