@@ -4,7 +4,8 @@
 
 mod failure;
 
-ghost use Rattle.std.specs.Prelude.{◌≤◌, length, IfOk};
+ghost use Rattle.std.specs.Prelude.{◌≡◌, ◌≤◌, length, IfOk, MatchResult, Ok, Err};
+ghost use Rattle.player.specs.declared.failure.Stop.TheVariants.{Fault};
 
 use command::failure::Failure;
 use command::status::status;
@@ -13,6 +14,7 @@ use playback::play::play;
 use std::io::{Read, Write};
 use std::process::ExitCode;
 use std::{env, fs, io};
+use transcript::ending::Ending;
 
 const USAGE: &str = "usage: player [FILE]
 
@@ -55,12 +57,21 @@ fn fill_from<'a>(rt: &HostRuntime, path: &str, buffer: &'a mut [u8; ROOM]) -> io
     fill(&mut file, buffer)
 }
 
+/// A playing that a fault ended is a failure of the program.
+fn played(ending: Ending) -> Result<(), Stop>
+    ensures { MatchResult ending (λ _. result ≡ Ok tt) (λ _. result ≡ Err Fault) }
+{
+    match ending {
+        Ok(_) => Ok(()),
+        Err(_) => Err(Stop::Fault),
+    }
+}
+
 /// Plays a script and prints its transcript.
 fn print(rt: &HostRuntime, script: &[u8]) -> Result<(), Failure<Stop>> {
     let transcript = play(rt.alloc(), script).map_err(|_| Failure::Own(Stop::Memory))?;
     rt.stdout().write_all(transcript.bytes.as_slice())?;
-    transcript.ending.map_err(|_| Failure::Own(Stop::Fault))?;
-    Ok(())
+    played(transcript.ending).map_err(|stop| Failure::Own(stop))
 }
 
 /// Plays the script in the file of this name.
