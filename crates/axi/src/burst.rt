@@ -50,6 +50,7 @@ pub struct Burst {
     pub addr: u32,
     pub len: u8,
     pub size: u8,
+    // BURST and LOCK are numbers: their wires carry values that stand for nothing, which `fits` refuses.
     pub burst: u8,
     pub lock: u8,
     pub cache: u8,

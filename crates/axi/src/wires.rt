@@ -43,6 +43,8 @@ pub struct ReadBeat {
     pub last: bool,
 }
 
+// VALID and payload are wires of their own in AXI, and the payload under a low VALID is promised: no options.
+// LBRESP and LRRESP are numbers, since the block may drive one that is no code.
 /// What the master and the block drive on one edge.
 #[derive(Clone, Copy, Debug, PartialEq, Eq)]
 pub struct Inputs {

@@ -36,21 +36,20 @@ pub enum Uncrossed {
 }
 
 impl Uncrossed {
-    /// Whether the part has crossed on LAW.
-    pub fn law_crossed(self) -> bool
-        ensures { result ≡ law_crossed self }
+    /// Whether the part has crossed on LAW, and whether it has on LW.
+    pub fn crossed(self) -> (bool, bool)
+        ensures law { result.0 ≡ law_crossed self }
+        ensures lw { result.1 ≡ lw_crossed self }
     {
-        matches!(self, Uncrossed::Lw)
-    }
-
-    /// Whether the part has crossed on LW.
-    pub fn lw_crossed(self) -> bool
-        ensures { result ≡ lw_crossed self }
-    {
-        matches!(self, Uncrossed::Law)
+        match self {
+            Uncrossed::Both => (false, false),
+            Uncrossed::Law => (false, true),
+            Uncrossed::Lw => (true, false),
+        }
     }
 }
 
+// The plan is the bridge's own and lent for each call: held in each state, it would be copied with it.
 /// What the write engine does.
 #[derive(Clone, Copy)]
 pub enum Writer {
@@ -142,11 +141,14 @@ impl Writer {
         ensures { result ≡ writer_wires plan self }
     {
         match self {
-            Writer::Send(task, part, uncrossed) => WriterWires {
-                law: (!uncrossed.law_crossed()).then(|| task.place(part.parts.at)),
-                lw: (!uncrossed.lw_crossed()).then(|| write_part(plan, part.parts.at, part.beat)),
-                lbready: false,
-            },
+            Writer::Send(task, part, uncrossed) => {
+                let (law, lw) = uncrossed.crossed();
+                WriterWires {
+                    law: (!law).then(|| task.place(part.parts.at)),
+                    lw: (!lw).then(|| write_part(plan, part.parts.at, part.beat)),
+                    lbready: false,
+                }
+            }
             Writer::Await(_, _) => WriterWires {
                 lbready: true,
                 ..WriterWires::default()

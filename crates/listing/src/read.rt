@@ -45,6 +45,7 @@ fn plan_line(cursor: &mut Cursor) -> Result<Plan, Refusal>
     plan_of(Settings::read(cursor)?, line)
 }
 
+// Like `plan_line`, by other calls: one function of both would take the calls and their contracts as parameters.
 /// The burst of a line, which the cursor passes.
 fn burst_line(cursor: &mut Cursor) -> Result<Burst, Refusal>
     ensures { Tells burst_at cursor.old cursor.new result }

@@ -24,6 +24,7 @@ impl fmt::Display for Full {
 
 impl Error for Full {}
 
+// No heap: the owner lends the slots, and the queue counts what it holds.
 /// A first-in first-out queue of at most as many entries as the owner lends slots.
 #[derive(Drop)]
 pub struct Ring<'a, T> {

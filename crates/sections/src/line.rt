@@ -9,6 +9,7 @@ use axi::plan::{Plan, PlanRefusal};
 use words::cursor::Cursor;
 use words::fault::Fault;
 
+// Numbers as they are written: whether there is such a plan is asked later, by `Plan::try_from`.
 /// What a bridge's line says: U, L and level.
 #[derive(Clone, Copy)]
 pub struct Settings {

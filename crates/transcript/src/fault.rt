@@ -8,6 +8,7 @@ use axi::wires::Refusal;
 use std::fmt;
 use words::fault::{Fault, Layer as ScriptLayer, Wrong};
 
+// The layers of a script's reader and the bridge: the reader knows of no bridge.
 /// The part of the player that refuses.
 #[derive(Clone, Copy, Debug, PartialEq, Eq)]
 pub enum Layer {

@@ -88,9 +88,9 @@ fn a_part_crosses_on_one_channel_first(rt: HostRuntime) {
 
 #[test]
 fn what_has_crossed(rt: HostRuntime) {
-    assert!(rt; !Uncrossed::Both.law_crossed() && !Uncrossed::Both.lw_crossed());
-    assert!(rt; !Uncrossed::Law.law_crossed() && Uncrossed::Law.lw_crossed());
-    assert!(rt; Uncrossed::Lw.law_crossed() && !Uncrossed::Lw.lw_crossed());
+    assert_eq!(rt; Uncrossed::Both.crossed(), (false, false));
+    assert_eq!(rt; Uncrossed::Law.crossed(), (false, true));
+    assert_eq!(rt; Uncrossed::Lw.crossed(), (true, false));
 }
 
 #[test]

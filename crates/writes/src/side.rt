@@ -151,8 +151,7 @@ impl<'a> WriteSide<'a> {
                 Below::default()
             }
             (Writer::Send(task, part, uncrossed), _) => {
-                let law = uncrossed.law_crossed();
-                let lw = uncrossed.lw_crossed();
+                let (law, lw) = uncrossed.crossed();
                 self.writer = task.send(part, law | x.lawready, lw | x.lwready);
                 Below {
                     law: !law & x.lawready,
