@@ -14,6 +14,7 @@ use command::failure::Failure;
 use command::status::status;
 use failure::Refusal;
 use parse::read_items;
+use show::Shown;
 use std::io::Read;
 use std::process::ExitCode;
 use std::{env, fs, io};
@@ -51,7 +52,7 @@ fn read_stdin(rt: &HostRuntime) -> io::Result<Vec<u8>> {
 fn explain(rt: &HostRuntime, text: &[u8]) -> Result<(), Failure<Refusal>> {
     let items = read_items(rt.alloc(), text)?;
     for item in items {
-        rt.print(item)?;
+        rt.print(Shown(item))?;
     }
     Ok(())
 }

@@ -11,25 +11,11 @@ use crate::fault::{BadNumber, Fault, Field, Form, Reason};
 use crate::hex::number;
 use axi::burst::Burst;
 use axi::plan::Plan;
+use listing::item::Item;
+use sections::line::Settings;
 use std::alloc::Global;
 
-/// What a line says.
-#[derive(Clone, Copy, Debug, PartialEq, Eq)]
-pub enum Item {
-    /// The plan for the bursts that follow.
-    Bridge(Plan),
-    /// A burst, under the plan in force.
-    Burst(Plan, Burst),
-}
-
-impl Item {
-    /// The plan in force after the line.
-    fn plan(self) -> Plan {
-        match self {
-            Item::Bridge(plan) | Item::Burst(plan, _) => plan,
-        }
-    }
-}
+// Not read by `listing`: its refusals tell line and byte, those of this program the field and what is wrong with its digits.
 
 /// The place of the first `mark`.
 fn place(bytes: &[u8], mark: u8) -> Option<usize>
@@ -109,18 +95,20 @@ impl<'a> Words<'a> {
 
 /// The plan of a line behind its keyword.
 fn read_plan(mut words: Words) -> Result<Plan, Reason> {
-    let upper = words.byte(Field::Upper)?;
-    let lower = words.byte(Field::Lower)?;
-    let level = words.byte(Field::Level)?;
+    let settings = Settings {
+        upper: words.byte(Field::Upper)?,
+        lower: words.byte(Field::Lower)?,
+        level: words.byte(Field::Level)?,
+    };
     words.end(Form::Bridge)?;
-    checked_plan(upper, lower, level)
+    checked_plan(settings)
 }
 
 /// The plan with these settings, if there is one.
-fn checked_plan(upper: u8, lower: u8, level: u8) -> Result<Plan, Reason>
-    ensures { MatchResult result (λ p. (refused_plan upper lower level ≡ None) × (upper_bytes p ≡ upper) × (lower_bytes p ≡ lower) × (level_number p.level ≡ level)) (λ e. (x : PlanRefusal) × (e ≡ Reason.Plan x) × (refused_plan upper lower level ≡ Some x)) }
+fn checked_plan(settings: Settings) -> Result<Plan, Reason>
+    ensures { MatchResult result (λ p. (refused_plan settings.upper settings.lower settings.level ≡ None) × (upper_bytes p ≡ settings.upper) × (lower_bytes p ≡ settings.lower) × (level_number p.level ≡ settings.level)) (λ e. (x : PlanRefusal) × (e ≡ Reason.Plan x) × (refused_plan settings.upper settings.lower settings.level ≡ Some x)) }
 {
-    Plan::new(upper, lower, level).map_err(Reason::Plan)
+    Plan::try_from(settings).map_err(Reason::Plan)
 }
 
 /// The burst of a line.

@@ -6,10 +6,10 @@ ghost use Rattle.parts.specs.declared.cut.Parts.{Parts};
 ghost use Rattle.std.specs.Iterator.{at_most};
 ghost use Rattle.std.specs.Option.{option_map_or};
 
-use crate::parse::Item;
 use axi::burst::Burst;
 use axi::plan::Plan;
 use axi::verdict::Verdict;
+use listing::item::Item;
 use parts::cut::Parts;
 use parts::lanes::lane;
 use parts::walk::Walk;
@@ -180,9 +180,13 @@ fn show_plan<W: fmt::Write>(f: &mut fmt::Formatter<W>, plan: Plan) -> fmt::Resul
     )
 }
 
-impl fmt::Display for Item {
+/// What a line of the input comes to, in words and numbers.
+#[derive(Clone, Copy)]
+pub struct Shown(pub Item);
+
+impl fmt::Display for Shown {
     fn fmt<W: fmt::Write>(&self, f: &mut fmt::Formatter<W>) -> fmt::Result {
-        match *self {
+        match self.0 {
             Item::Bridge(plan) => show_plan(f, plan),
             Item::Burst(plan, burst) => write!(f, "{}", Planned { plan, burst }),
         }

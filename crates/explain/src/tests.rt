@@ -1,5 +1,6 @@
 //! Bad input, and what the user is told of it.
-use crate::parse::{Item, read_items};
+use crate::parse::read_items;
+use listing::item::Item;
 use std::alloc::AllocGlobal;
 use std::process::Abort;
 use std::test::*;
