@@ -1,6 +1,5 @@
 //! The read side: two queues and the read engine.
 ghost use Rattle.reads.specs.ReadSides.{reads_view, read_slots, no_reads, reads_crossed, read_side_events, read_side_moved, read_side_edged, below_of, ReadsBecome};
-ghost use Rattle.ledgers.specs.Lists.{any};
 ghost use Rattle.ledgers.specs.OneByOne.{room};
 ghost use Rattle.ledgers.specs.Reader.{busy};
 ghost use Rattle.engines.specs.Reads.{reader_view, reader_wires};
@@ -15,6 +14,7 @@ use engines::reader::{Reader, ReaderWires};
 use engines::taken::Taken;
 use ring::Ring;
 
+// Contracts view a side under a plan, and the side holds none: so it has no Model.
 /// The read bursts that wait, the read beats that wait, and the engine between them.
 #[derive(Drop)]
 pub struct ReadSide<'a> {

@@ -1,6 +1,5 @@
 //! The write side: three queues and the write engine.
 ghost use Rattle.writes.specs.WriteSides.{writes_view, write_slots, no_writes, writes_crossed, write_side_events, write_side_moved, write_side_edged, below_of, WritesBecome};
-ghost use Rattle.ledgers.specs.Lists.{any};
 ghost use Rattle.ledgers.specs.OneByOne.{room};
 ghost use Rattle.ledgers.specs.Writer.{busy};
 ghost use Rattle.engines.specs.Writes.{writer_view, writer_wires};
@@ -15,6 +14,7 @@ use engines::task::Task;
 use engines::writer::{Writer, WriterWires};
 use ring::Ring;
 
+// Contracts view a side under a plan, and the side holds none: so it has no Model.
 /// The write bursts and data beats that wait, the write answers that wait, and the engine between them.
 #[derive(Drop)]
 pub struct WriteSide<'a> {
