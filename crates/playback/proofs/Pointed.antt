@@ -31,7 +31,7 @@ gates_end σ s m e n (g ∷ gs) at =
     edge_ends s g _ (refused_inputs σ.plan x) at.0 (gates_end σ s (state_after σ m x) (stock_after σ m e x) (n + 1) gs at.1)
 
 plan_ends : (s : List ℕ) (c : Contents) (r : Result Plan PlanRefusal) → GatesAt s c.gates → EndsIn s (by_plan s c r).ending
-plan_ends s c (Ok p) at = gates_end (four_slots p) s (made (pieces p) (joining p)) (record { master = c.master; block = c.block }) 0 c.gates at
+plan_ends s c (Ok p) at = gates_end (four_slots p) s (made (pieces p) (joining p)) (record { master = c.master; block = c.block }) 0 c.gates at.1
 plan_ends s c (Err e) at = record { place = omega arith; line = refl; word = refl }
 
 reading_ends : (s : List ℕ) (r : Result Contents script_fault.Fault) → script s ≡ r → Pointed s r → EndsIn s (by_reading s r).ending
