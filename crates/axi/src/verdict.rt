@@ -132,6 +132,7 @@ impl Plan {
             widths: self.widths,
             level,
         };
+        // A match: by `unwrap_or_else` the proof that the reason is the first one did not close.
         match plan.shape_refusal(b) {
             Some(v) => v,
             None => plan.level_verdict(b),

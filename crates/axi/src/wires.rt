@@ -5,6 +5,8 @@ ghost use Rattle.axi.specs.Checks.{beat_fits, code_fits, read_part_fits, refusal
 use crate::burst::Burst;
 use crate::code::Code;
 use crate::plan::{Plan, Widths};
+use std::error::Error;
+use std::fmt;
 
 /// The payload of W and of LW: data and strobes.
 #[derive(Clone, Copy, Debug, Default, PartialEq, Eq)]
@@ -100,6 +102,23 @@ pub enum Refusal {
     /// LRDATA or LRRESP.
     ReadPart = 8,
 }
+
+/// The refusal in words.
+impl fmt::Display for Refusal {
+    fn fmt<W: fmt::Write>(&self, f: &mut fmt::Formatter<W>) -> fmt::Result {
+        f.write_str(match self {
+            Refusal::WriteBurst | Refusal::ReadBurst =>
+                "a field is too large; expected at most ID fff, SIZE 7, BURST 3, LOCK 1, CACHE f, PROT 7",
+            Refusal::DataBeat =>
+                "WDATA or WSTRB is too large; expected at most U bytes, and a strobe for each",
+            Refusal::WriteCode => "LBRESP is too large; expected at most 3",
+            Refusal::ReadPart =>
+                "LRDATA or LRRESP is too large; expected at most L bytes, and at most 3",
+        })
+    }
+}
+
+impl Error for Refusal {}
 
 /// The number of the refusal.
 impl From<Refusal> for u8 {

@@ -32,6 +32,7 @@ pub struct Verdicts {
     pub protected: Verdict,
 }
 
+// `crossed` has a flag for every channel, so AW and AR stand there beside the verdicts on their bursts.
 /// What an edge did.
 #[derive(Clone, Copy, Default)]
 pub struct Report {

@@ -18,6 +18,7 @@ pub struct Taken {
     pub verdict: Verdict,
 }
 
+// Constants cannot call `default`, so these stand written out.
 /// What a bench can fill the slots of a burst table with.
 pub const NO_BURST: Taken = Taken {
     burst: Burst {

@@ -24,6 +24,7 @@ pub struct Part {
     pub parts: Parts,
 }
 
+// Two flags where LAW and LW are spoken of apart, one value where the engine keeps them.
 /// On which channels a part has still to cross. One that has crossed on both waits for its response.
 #[derive(Clone, Copy)]
 pub enum Uncrossed {

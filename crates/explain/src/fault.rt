@@ -1,6 +1,7 @@
 //! What can be wrong with the input, and how the user is told.
 use crate::hex::NumberFault;
 use axi::plan::PlanRefusal;
+use axi::wires::Refusal;
 use std::alloc::{AllocError, AllocFailed};
 use std::fmt;
 
@@ -63,6 +64,7 @@ pub enum Reason {
     FieldTooLarge,
 }
 
+// As the fault of a list in `listing`, but for the line: there each refusal has its own.
 /// Why the input is refused.
 #[derive(Clone, Copy, Debug, PartialEq, Eq)]
 pub enum Fault {
@@ -180,10 +182,11 @@ impl fmt::Display for Reason {
                 let number = u8::from(refusal);
                 write!(f, "refusal {number}, {refusal}")
             }
-            Reason::FieldTooLarge => write!(
-                f,
-                "refusal 4, a field is too large; expected at most ID fff, SIZE 7, BURST 3, LOCK 1, CACHE f, PROT 7"
-            ),
+            Reason::FieldTooLarge => {
+                let refusal = Refusal::WriteBurst;
+                let number = u8::from(refusal);
+                write!(f, "refusal {number}, {refusal}")
+            }
         }
     }
 }

@@ -131,20 +131,13 @@ fn read_burst(mut words: Words) -> Result<Burst, Reason> {
 fn checked_burst(burst: Burst) -> Result<Burst, Reason>
     ensures { MatchResult result (λ b. (b ≡ burst) × (burst_fits burst ≡ true)) (λ e. (e ≡ Reason.FieldTooLarge) × (burst_fits burst ≡ false)) }
 {
-    if burst.fits() {
-        Ok(burst)
-    } else {
-        Err(Reason::FieldTooLarge)
-    }
+    burst.fits().then_some(burst).ok_or(Reason::FieldTooLarge)
 }
 
 /// The words behind the keyword of a plan, where the line begins with it.
 fn behind_keyword(line: &[u8]) -> Option<Words> {
     let mut words = Words::of(line);
-    match words.next()? {
-        b"bridge" => Some(words),
-        _ => None,
-    }
+    (words.next()? == b"bridge").then_some(words)
 }
 
 /// What a line says, under the plan in force.

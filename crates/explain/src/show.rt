@@ -63,6 +63,7 @@ impl Lanes {
     }
 }
 
+// Not the library's `successors`: that may have no end, and a `for` over it has no proof.
 /// The parts of a beat that are still to come.
 #[derive(Clone, Copy)]
 struct Coming {

@@ -4,6 +4,7 @@ ghost use Rattle.listing.specs.declared.refusal.Refusal.TheVariants.{Words};
 ghost use Rattle.std.specs.Prelude.{◌≡◌};
 
 use axi::plan::PlanRefusal;
+use axi::wires;
 use std::alloc::{AllocError, AllocFailed};
 use std::fmt;
 use words::fault::{Fault, Wrong};
@@ -82,10 +83,11 @@ impl fmt::Display for Refusal {
                 let number = u8::from(refusal);
                 write!(f, "line {line}: refusal {number}, {refusal}")
             }
-            Refusal::Field(line) => write!(
-                f,
-                "line {line}: refusal 4, a field is too large; expected at most ID fff, SIZE 7, BURST 3, LOCK 1, CACHE f, PROT 7"
-            ),
+            Refusal::Field(line) => {
+                let refusal = wires::Refusal::WriteBurst;
+                let number = u8::from(refusal);
+                write!(f, "line {line}: refusal {number}, {refusal}")
+            }
         }
     }
 }

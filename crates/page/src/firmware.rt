@@ -53,9 +53,7 @@ fn burst(id: u16, addr: u32, len: u8) -> Burst {
         len,
         size: 2,
         burst: 1,
-        lock: 0,
-        cache: 0,
-        prot: 0,
+        ..Burst::default()
     }
 }
 
@@ -80,12 +78,12 @@ fn page_address(i: u32) -> u32 {
 fn on_lanes(addr: u32, word: u32) -> Beat {
     if addr % 8 < 4 {
         Beat {
-            wdata: word as u64,
+            wdata: u64::from(word),
             wstrb: 0x0f,
         }
     } else {
         Beat {
-            wdata: (word as u64) << 32,
+            wdata: u64::from(word) << 32,
             wstrb: 0xf0,
         }
     }

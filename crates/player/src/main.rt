@@ -34,7 +34,7 @@ const VERSION: &str = "player 1.0.0\n";
 const ROOM: usize = 16_385;
 
 /// Reads until the input ends or the buffer is full, and answers what it read.
-// One array on the stack, with a count of the bytes read: a player has no heap for its input.
+// The input is one repeated array, by a rule of the project: filled from its front, with a count of the bytes read.
 fn fill<'a, R: Read>(input: &mut R, buffer: &'a mut [u8; ROOM]) -> io::Result<&'a [u8]>
     ensures { IfOk result (λ read. length read.now ≤ 16385) }
 {
@@ -61,17 +61,14 @@ fn fill_from<'a>(rt: &HostRuntime, path: &str, buffer: &'a mut [u8; ROOM]) -> io
 fn played(ending: Ending) -> Result<(), Stop>
     ensures { MatchResult ending (λ _. result ≡ Ok tt) (λ _. result ≡ Err Fault) }
 {
-    match ending {
-        Ok(_) => Ok(()),
-        Err(_) => Err(Stop::Fault),
-    }
+    ending.map(|_| ()).map_err(|_| Stop::Fault)
 }
 
 /// Plays a script and prints its transcript.
 fn print(rt: &HostRuntime, script: &[u8]) -> Result<(), Failure<Stop>> {
     let transcript = play(rt.alloc(), script).map_err(|_| Failure::Own(Stop::Memory))?;
     rt.stdout().write_all(transcript.bytes.as_slice())?;
-    played(transcript.ending).map_err(|stop| Failure::Own(stop))
+    played(transcript.ending).map_err(Failure::Own)
 }
 
 /// Plays the script in the file of this name.

@@ -19,6 +19,7 @@ use load::Load;
 /// The slots of each table.
 const SLOTS: usize = 4;
 
+// The closure behind a `dyn`: a type parameter was tried, and the measured edges were slower.
 /// Drives a bridge of this plan for so many edges under these gates, and mixes the payloads that it shows and the counts of what crosses into one number.
 fn drive(plan: Plan, edges: u64, gate: &mut dyn FnMut() -> u32) -> u64
     requires { IsAlwaysCallable gate.now }

@@ -22,9 +22,8 @@ fn page(number: u32) -> Burst {
         len: 63,
         size: 2,
         burst: 1,
-        lock: 0,
-        cache: 0,
         prot: 2,
+        ..Burst::default()
     }
 }
 
@@ -51,6 +50,7 @@ impl Load {
         }
     }
 
+    // The bits are those of a script's gates; what is measured stays free of the crates that play scripts.
     /// What the master and the block drive on an edge.
     fn inputs(&self, gate: u32, edge: u64) -> Inputs {
         Inputs {
@@ -85,7 +85,7 @@ impl Load {
             ^ shown.lw.wdata
             ^ u64::from(shown.law.addr) << 16
             ^ u64::from(shown.lar.addr) << 24
-            ^ (u8::from(shown.b.code) as u64) << 60;
+            ^ u64::from(u8::from(shown.b.code)) << 60;
         self.sum = self.sum.rotate_left(5) ^ word;
     }
 }

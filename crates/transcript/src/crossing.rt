@@ -101,6 +101,7 @@ impl Crossing {
     pub fn print(self, out: &mut Vec<u8>, edge: u64) -> Result<(), AllocError>
         ensures { Writes result out.old.items out.new.items (entry_line edge self) }
     {
+        // A vector refuses bytes only for want of memory.
         writeln!(out, "{edge:x} {self}").map_err(|_| AllocError)
     }
 }

@@ -43,5 +43,6 @@ pub fn print_ending(out: &mut Vec<u8>, ending: Ending) -> Result<(), AllocError>
         Ok(owed) => writeln!(out, "owed {} {}", Count(owed.writes), Count(owed.reads)),
         Err(fault) => writeln!(out, "{fault}"),
     };
+    // A vector refuses bytes only for want of memory.
     printed.map_err(|_| AllocError)
 }

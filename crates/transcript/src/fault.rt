@@ -71,6 +71,7 @@ pub enum Cause {
     Bridge(Refused),
 }
 
+// As `words::fault::Fault` with another cause. A type of its own: conversions and methods stand in the crate of a type.
 /// Why a script is not played to its end: the cause, the line from 1, and the place from 0.
 #[derive(Clone, Copy, Debug, PartialEq, Eq)]
 pub struct PlayerFault {

@@ -23,14 +23,11 @@ fn plan(level: Level) -> Plan {
 
 fn burst(kind: u8, addr: u32, size: u8, len: u8) -> Burst {
     Burst {
-        id: 0,
         addr,
         len,
         size,
         burst: kind,
-        lock: 0,
-        cache: 0,
-        prot: 0,
+        ..Burst::default()
     }
 }
 

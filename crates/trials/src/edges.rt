@@ -25,9 +25,7 @@ fn burst() -> Burst {
         len: 0,
         size: 3,
         burst: 1,
-        lock: 0,
-        cache: 0,
-        prot: 0,
+        ..Burst::default()
     }
 }
 

@@ -123,10 +123,7 @@ const FULL: &[u8] =
 
 /// What the script that has them all holds.
 fn full() -> Result<Script<'static>, Fail> {
-    match Script::read(FULL) {
-        Ok(script) => Ok(script),
-        Err(_) => Err(Fail::new("refused")),
-    }
+    Script::read(FULL).map_err(|_| Fail::new("refused"))
 }
 
 #[test]

@@ -125,9 +125,9 @@ fn cut_anywhere(rt: HostRuntime) -> Result<(), Fail> {
 
 /// The script with another byte at this place.
 fn changed(rt: &HostRuntime, place: usize) -> Result<Vec<u8>, Fail> {
-    let mut script = Vec::new(rt.alloc());
-    for (i, byte) in WRITE.iter().enumerate() {
-        script.push(if i == place { b'G' } else { *byte })?;
+    let mut script = Vec::from_slice(rt.alloc(), WRITE)?;
+    if let Some(byte) = script.get_mut(place) {
+        *byte = b'G';
     }
     Ok(script)
 }

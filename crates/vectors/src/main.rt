@@ -100,7 +100,7 @@ fn try_all(rt: &HostRuntime, bytes: &[u8]) -> anyhow::Result<()> {
     Ok(())
 }
 
-// As `explain` reads its input, but for the error: one function of both would be these calls under another name.
+// Standard input as in `explain`: nothing is promised of it, so that a public function of both could promise nothing.
 /// All bytes of the file of this name, or of standard input.
 fn read(rt: &HostRuntime, path: Option<String>) -> io::Result<Vec<u8>> {
     match path {

@@ -39,13 +39,13 @@ impl fmt::Display for Wrong {
     ghost output = { λ w. Some (wrong_text w) };
 
     fn fmt<W: fmt::Write>(&self, f: &mut fmt::Formatter<W>) -> fmt::Result {
-        match self {
-            Wrong::TooLong => write!(f, "the input is above 16,384 bytes"),
-            Wrong::NotDue => write!(f, "not the due word or separator"),
-            Wrong::TooLarge => write!(f, "the number is too large"),
-            Wrong::EndsEarly => write!(f, "the input ends too early"),
-            Wrong::Trailing => write!(f, "bytes stand after the last section"),
-        }
+        f.write_str(match self {
+            Wrong::TooLong => "the input is above 16,384 bytes",
+            Wrong::NotDue => "not the due word or separator",
+            Wrong::TooLarge => "the number is too large",
+            Wrong::EndsEarly => "the input ends too early",
+            Wrong::Trailing => "bytes stand after the last section",
+        })
     }
 }
 

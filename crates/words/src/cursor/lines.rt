@@ -21,6 +21,7 @@ impl<'a> Cursor<'a> {
         ensures reads { Reads (numbers carriers.now) self.old self.new result }
         ensures fit { IfOk result (λ vs. Fit carriers.now vs) }
     {
+        // Counted, since the place in the line also says which separator is due.
         let mut values = [0; N];
         for (i, carrier) in carriers.iter().enumerate() {
             values[i] = self.number(*carrier)?;
