@@ -137,7 +137,7 @@ fn checked_burst(burst: Burst) -> Result<Burst, Reason>
 /// The words behind the keyword of a plan, where the line begins with it.
 fn behind_keyword(line: &[u8]) -> Option<Words> {
     let mut words = Words::of(line);
-    (words.next()? == b"bridge").then_some(words)
+    (words.next()? == b"bridge".as_slice()).then_some(words)
 }
 
 /// What a line says, under the plan in force.
