@@ -4,13 +4,29 @@ use axi::wires::{Beat, Outputs, Place};
 use bridge::report::Crossed;
 use std::fmt;
 
+/// The words of the page, and its lock word.
+const HELD: usize = 65;
+
+/// The place of the lock word.
+const LOCK_WORD: usize = 64;
+
+/// The write under way.
+#[derive(Clone, Copy, Debug, PartialEq, Eq)]
+enum Write {
+    /// What has come of it.
+    Coming(Option<Place>, Option<Beat>),
+    /// It acted, and is to be answered.
+    Acted,
+}
+
+/// No write is under way.
+const NO_WRITE: Write = Write::Coming(None, None);
+
 /// The words held, and the transfers under way.
 #[derive(Clone, Copy)]
 pub struct Block {
-    words: [u32; 65],
-    address: Option<Place>,
-    data: Option<Beat>,
-    written: bool,
+    words: [u32; HELD],
+    write: Write,
     read: Option<u32>,
 }
 
@@ -23,27 +39,25 @@ impl Block {
     /// A block whose words are all 0.
     pub fn new() -> Block {
         Block {
-            words: [0; 65],
-            address: None,
-            data: None,
-            written: false,
+            words: [0; HELD],
+            write: NO_WRITE,
             read: None,
         }
     }
 
     /// LAWREADY: no write is under way, but for the stalls.
     pub fn lawready(&self, edge: u32) -> bool {
-        self.address.is_none() && !self.written && edge % 3 != 1
+        matches!(self.write, Write::Coming(None, _)) && edge % 3 != 1
     }
 
     /// LWREADY: no data wait, but for the stalls.
     pub fn lwready(&self, edge: u32) -> bool {
-        self.data.is_none() && !self.written && edge % 5 < 3
+        matches!(self.write, Write::Coming(_, None)) && edge % 5 < 3
     }
 
     /// LBVALID: a write is to be answered, but for the stalls.
     pub fn lbvalid(&self, edge: u32) -> bool {
-        self.written && edge % 7 != 2
+        self.write == Write::Acted && edge % 7 != 2
     }
 
     /// LARREADY: no read is under way, but for the stalls.
@@ -64,21 +78,23 @@ impl Block {
     /// Goes on by what crossed.
     pub fn see(&mut self, crossed: &Crossed, o: &Outputs) {
         if crossed.lb {
-            self.written = false;
+            self.write = NO_WRITE;
         }
         if crossed.lr {
             self.read = None;
         }
-        if crossed.law {
-            self.address = Some(o.law);
-        }
-        if crossed.lw {
-            self.data = Some(o.lw);
+        if let Write::Coming(address, data) = &mut self.write {
+            if crossed.law {
+                *address = Some(o.law);
+            }
+            if crossed.lw {
+                *data = Some(o.lw);
+            }
         }
         if crossed.lar {
             self.read = Some(self.word(o.lar.addr));
         }
-        self.write();
+        self.act();
     }
 
     /// The word at an address, 0 outside.
@@ -87,12 +103,10 @@ impl Block {
     }
 
     /// A write acts once its address and its data are there.
-    fn write(&mut self) {
-        if let (Some(place), Some(beat)) = (self.address, self.data) {
+    fn act(&mut self) {
+        if let Write::Coming(Some(place), Some(beat)) = self.write {
             self.put(place.addr, beat);
-            self.address = None;
-            self.data = None;
-            self.written = true;
+            self.write = Write::Acted;
         }
     }
 
@@ -107,7 +121,7 @@ impl Block {
 
     /// Whether the words of the page are as the firmware wrote them.
     fn holds_page(&self) -> bool {
-        self.words[..64]
+        self.words[..LOCK_WORD]
             .iter()
             .copied()
             .eq((0..WORDS).map(page_word))
@@ -119,7 +133,7 @@ impl fmt::Display for Block {
     fn fmt<W: fmt::Write>(&self, f: &mut fmt::Formatter<W>) -> fmt::Result {
         f.write_str(if !self.holds_page() {
             "the block does not hold the page"
-        } else if self.words[64] != LOCKED {
+        } else if self.words[LOCK_WORD] != LOCKED {
             "the block holds the page, not locked"
         } else {
             "the block holds the page, locked"

@@ -80,6 +80,7 @@ fn trailing(rt: HostRuntime) {
     );
 }
 
+// As the test of this name among the cursors; it landed with the scripts, and stays with them.
 #[test]
 fn layers(rt: HostRuntime) {
     assert_eq!(rt; Wrong::TooLarge.layer(), Layer::Words);
