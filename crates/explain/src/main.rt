@@ -75,6 +75,7 @@ fn run(rt: &HostRuntime) -> Result<(), Failure<Refusal>> {
     explain(rt, text.as_slice())
 }
 
+// As `main` of `player`, which is silent on a fault that the transcript tells: each says its own failures.
 fn main(rt: HostRuntime) -> ExitCode {
     let outcome = run(&rt);
     if let Err(failure) = &outcome {

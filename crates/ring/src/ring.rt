@@ -93,6 +93,7 @@ impl<'a, T: Copy> Ring<'a, T> {
     pub fn front(&self) -> Option<T>
         ensures { result ≡ first (entries self.now) }
     {
+        // An `if` here and in `get`: only under its test is there such a slot.
         if self.is_empty() {
             None
         } else {
