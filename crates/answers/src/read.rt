@@ -20,6 +20,7 @@ pub struct ReadAnswer {
 }
 
 impl ReadAnswer {
+    // The plan stays a parameter: a part holds its address alone.
     /// What the block's answer to a part at this address counts for: its data on the part's own lanes, all others 0.
     pub fn of_part(plan: Plan, at: u32, lr: LowerRead) -> ReadAnswer
         ensures value { result ≡ part_answer plan at lr }

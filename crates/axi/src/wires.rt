@@ -26,6 +26,7 @@ pub struct Place {
 #[derive(Clone, Copy, Debug, Default, PartialEq, Eq)]
 pub struct LowerRead {
     pub lrdata: u64,
+    // A number: the block may drive one that is no code.
     pub lrresp: u8,
 }
 

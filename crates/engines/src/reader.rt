@@ -32,6 +32,7 @@ pub enum Reader {
 }
 
 impl Task<ReadAnswer> {
+    // The plan stays a parameter: parts lie in the engines' states, each of which would hold a copy of it.
     /// On with these parts of a beat, or to the beat's answer where there are none.
     fn with_read_parts(self, plan: Plan, parts: Option<Parts>) -> Reader
         ensures { reader_view plan result ≡ with_parts (pieces plan) (joining plan) (task_burst self) self.walk.count (task_sum self) (map (place self.walk.burst) (cursor_places plan parts)) }

@@ -65,6 +65,7 @@ impl Taken {
         }
     }
 
+    // The plan stays a parameter: parts lie in the engines' states, each of which would hold a copy of it.
     /// The parts of a beat at this address. A beat of a refused burst has none.
     pub fn cut(self, plan: Plan, at: u32) -> Option<Parts>
         ensures { cursor_places plan result ≡ cut_at plan self at }

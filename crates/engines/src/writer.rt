@@ -105,6 +105,7 @@ impl Task<Code> {
             .with_parts(plan, part.beat, parts_after(plan, part.parts))
     }
 
+    // Two flags: each is joined with a READY of its own, and `Uncrossed` has no value for both.
     /// On which channels a part has crossed: it is offered on the others, or it waits for its response.
     pub fn send(self, part: Part, law: bool, lw: bool) -> Writer
         ensures { (p : Plan) → writer_view p result ≡ sent (pieces p) (joining p) (task_burst self) self.walk.count (task_sum self) (part_at p self part) (parts_after p self part) law lw }

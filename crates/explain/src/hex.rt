@@ -24,6 +24,7 @@ pub fn number(word: &[u8], largest: u32) -> Result<u32, NumberFault>
     if word.is_empty() {
         return Err(NumberFault::Empty);
     }
+    // A loop, since it ends early for two reasons.
     let mut value = 0;
     for byte in word {
         let Some(d) = digit(*byte) else {

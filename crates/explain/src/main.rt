@@ -41,6 +41,7 @@ fn read_file(rt: &HostRuntime, path: String) -> Result<Vec<u8>, Failure<Refusal>
     fs::read(rt, path.as_str()).map_err(|error| Failure::Unreadable(path, error))
 }
 
+// As `vectors` does, in the library's three calls.
 /// All bytes of standard input.
 fn read_stdin(rt: &HostRuntime) -> io::Result<Vec<u8>> {
     let mut text = Vec::new(rt.alloc());

@@ -5,6 +5,7 @@ use std::alloc::AllocGlobal;
 use std::process::Abort;
 use std::test::*;
 
+// As in the tests of lists, of another reader.
 /// Passes where the input is refused with these words.
 fn refuses(rt: &(impl Abort + AllocGlobal), text: &[u8], words: &str) -> Result<(), Fail> {
     match read_items(rt.alloc(), text) {
@@ -106,6 +107,7 @@ fn no_final_newline(rt: HostRuntime) -> Result<(), Fail> {
     )
 }
 
+// As the test of this name of lists, of another reader.
 #[test]
 fn fields_in_their_order(rt: HostRuntime) -> Result<(), Fail> {
     let Ok(items) = read_items(rt.alloc(), b"bridge 8 4 1\nabc 1234 fe 5 2 1 d 6\n") else {

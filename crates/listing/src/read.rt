@@ -73,6 +73,7 @@ pub fn read_items(heap: Global, list: &[u8]) -> Result<Vec<Item>, ListFault>
     let mut cursor = Cursor::new(list);
     let mut plan = plan_line(&mut cursor)?;
     items.push(Item::Bridge(plan))?;
+    // The cursor itself says whether a line is left.
     while !cursor.at_end() {
         let item = read_line(plan, &mut cursor)?;
         items.push(item)?;

@@ -16,6 +16,7 @@ pub struct Parts {
 }
 
 impl Parts {
+    // The plan stays a parameter: parts lie in the engines' states, each of which would hold a copy of it.
     /// The parts of a beat of this burst at address `at`.
     pub fn of(plan: Plan, b: Burst, at: u32) -> Parts
         ensures which { at_places plan result ≡ places plan (bytes b) at }

@@ -3,10 +3,10 @@ ghost use Rattle.std.specs.Prelude.{◌≡◌, ℕ, ◌+◌, ◌≤◌};
 ghost use Rattle.axi.specs.Plans.{lower_bytes, upper_bytes};
 ghost use Rattle.parts.specs.Lanes.{raised, write_part};
 
-// Plan and address stay two parameters: a part does not hold its plan, and each caller asks one of these questions once.
 use axi::plan::{Plan, Widths};
 use axi::wires::Beat;
 
+// Plan and address stay two parameters, here and below: a part holds its address alone, and no caller holds a pair of them.
 /// The first lane of the upper bus that a part at this address uses.
 pub fn lane(plan: Plan, at: u32) -> u32
     ensures which { result ≡ Rattle.parts.specs.Lanes.lane plan at }

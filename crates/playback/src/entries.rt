@@ -11,6 +11,7 @@ use script::script::{Block, Master};
 use sections::entry::Entry;
 use sections::section::Section;
 
+// The same bits stand in `traffic`, which stays free of this crate.
 /// The wires that a gate allows, by their bits.
 #[derive(Clone, Copy)]
 pub enum Wire {

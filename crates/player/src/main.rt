@@ -103,6 +103,7 @@ fn run(rt: &HostRuntime) -> Result<(), Failure<Stop>> {
     }
 }
 
+// As `main` of `explain`, but silent on a fault, which the transcript tells.
 fn main(rt: HostRuntime) -> ExitCode {
     let outcome = run(&rt);
     if let Err(failure) = &outcome {

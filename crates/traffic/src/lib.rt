@@ -37,6 +37,7 @@ fn drive(plan: Plan, edges: u64, gate: &mut dyn FnMut() -> u32) -> u64
 /// into one number. It is 0 without a plan.
 ///
 /// The settings come from outside so that the compiler makes no bridge for one plan alone.
+// A flag, since C calls this.
 #[unsafe(no_mangle)]
 pub extern "C" fn traffic_sum(upper: u8, lower: u8, level: u8, edges: u64, stalls: bool) -> u64
     ensures { refused_plan upper lower level ≢ None → result ≡ 0 }

@@ -49,6 +49,7 @@ fn write_numbers<W: fmt::Write>(f: &mut fmt::Formatter<W>, numbers: &[u64]) -> f
 }
 
 impl Crossing {
+    // Beside `Display`, so that a contract says the word of each channel.
     /// The word that stands for the channel.
     fn name(self) -> &'static str
         ensures { result.now ≡ channel self }

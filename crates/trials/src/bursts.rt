@@ -14,7 +14,7 @@ const INCR: u8 = 1;
 const WRAP: u8 = 2;
 
 /// U 8 and L 4.
-fn plan(level: Level) -> Plan {
+pub(crate) fn plan(level: Level) -> Plan {
     Plan {
         widths: Widths::EightOverFour,
         level,
@@ -147,10 +147,7 @@ fn data_that_fit(rt: HostRuntime) {
 
 /// The number of the refusal, 0 for none.
 fn refusal(upper: u8, lower: u8, level: u8) -> u8 {
-    match Plan::new(upper, lower, level) {
-        Ok(_) => 0,
-        Err(e) => u8::from(e),
-    }
+    Plan::new(upper, lower, level).err().map_or(0, u8::from)
 }
 
 #[test]

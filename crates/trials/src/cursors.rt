@@ -110,7 +110,7 @@ fn lines(rt: HostRuntime) -> Result<(), Fail> {
 
 #[test]
 fn layers(rt: HostRuntime) {
-    assert!(rt; matches!(Wrong::TooLarge.layer(), Layer::Words));
-    assert!(rt; matches!(Wrong::EndsEarly.layer(), Layer::Sections));
+    assert_eq!(rt; Wrong::TooLarge.layer(), Layer::Words);
+    assert_eq!(rt; Wrong::EndsEarly.layer(), Layer::Sections);
     assert_eq!(rt; u8::from(Wrong::Trailing), 24);
 }

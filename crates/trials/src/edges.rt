@@ -1,21 +1,14 @@
 //! A bridge over its slots, edge by edge; what of a part has crossed; the response of a refused burst.
+use crate::bursts::plan;
 use axi::burst::Burst;
 use axi::code::Code;
-use axi::plan::{Level, Plan, Widths};
+use axi::plan::Level;
 use axi::wires::{Beat, Inputs, LowerRead};
 use bridge::bridge::Bridge;
 use bridge::slots::Slots;
 use engines::taken::Taken;
 use engines::task::Task;
 use engines::writer::Uncrossed;
-
-/// U 8 and L 4.
-fn plan(level: Level) -> Plan {
-    Plan {
-        widths: Widths::EightOverFour,
-        level,
-    }
-}
 
 /// A burst of one beat of eight bytes: two parts on the lower bus.
 fn burst() -> Burst {

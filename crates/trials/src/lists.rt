@@ -4,6 +4,7 @@ use listing::read::read_items;
 use std::process::Abort;
 use std::test::Fail;
 
+// As in the tests of `explain`, of another reader.
 /// Passes where the list is refused with these words.
 fn refuses(rt: &(impl Abort + AllocGlobal), list: &[u8], words: &str) -> Result<(), Fail> {
     match read_items(rt.alloc(), list) {

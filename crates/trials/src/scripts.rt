@@ -80,7 +80,7 @@ fn trailing(rt: HostRuntime) {
     );
 }
 
-// As the test of this name among the cursors; it landed with the scripts, and stays with them.
+// As the test of this name among the cursors: a test that landed stays.
 #[test]
 fn layers(rt: HostRuntime) {
     assert_eq!(rt; Wrong::TooLarge.layer(), Layer::Words);
@@ -88,12 +88,10 @@ fn layers(rt: HostRuntime) {
     assert_eq!(rt; u8::from(Wrong::Trailing), 24);
 }
 
+// What the tests of each section ask too: a test that landed stays.
 #[test]
 fn entries(rt: HostRuntime) -> Result<(), Fail> {
-    held(
-        &rt,
-        b"bridge 8 4 0\nwrites 1\n5 1002 0 3 1 0 0 2\nbeats 1\n1122334455667788 fc\nreads 0\nwcodes 2\n3\n02\nrparts 1\ncafe 1\ngates 2\n3ff\n1\n",
-    )
+    held(&rt, FULL)
 }
 
 /// Passes where these bytes hold one entry in each section but `reads`, two write responses and two gates.

@@ -74,6 +74,7 @@ fn try_case(rt: &HostRuntime, tally: &mut Tally, case: &Case) -> anyhow::Result<
     Ok(())
 }
 
+// What is malformed ends the cases and is told after their counts, any other error ends the run: `?` passes only the second.
 /// Plays the scripts of a pack up to its end or to what is malformed.
 fn try_cases(
     rt: &HostRuntime,
@@ -100,7 +101,7 @@ fn try_all(rt: &HostRuntime, bytes: &[u8]) -> anyhow::Result<()> {
     Ok(())
 }
 
-// Standard input as in `explain`: nothing is promised of it, so that a public function of both could promise nothing.
+// Standard input as in `explain`, in the library's three calls: a function of both would be longer than they are.
 /// All bytes of the file of this name, or of standard input.
 fn read(rt: &HostRuntime, path: Option<String>) -> io::Result<Vec<u8>> {
     match path {

@@ -63,6 +63,7 @@ impl<'a> WriteSide<'a> {
         }
     }
 
+    // Plan and wires stay two: the plan is the bridge's own, the wires are new on each edge.
     /// One edge: the engine moves, then what crosses above enters and leaves. It answers what crossed.
     #[tactic(auto, using(engines::proofs::Waiting::waits))]
     pub fn edge(&mut self, plan: Plan, x: &Inputs) -> WriteEvents
