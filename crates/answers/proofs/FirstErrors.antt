@@ -1,9 +1,10 @@
 -- Codes join lawfully, and in order to the first error among them.
-use Rattle.std.proofs.Common.{◌≡◌, List, [], ◌∷◌, fold, refl}
+use Rattle.std.proofs.Common.{◌≡◌, List, [], ◌∷◌, fold, refl, ◌∙◌}
 use Rattle.axi.specs.declared.code.Code.{Code}
 use Rattle.axi.specs.declared.code.Code.TheVariants.{Okay, SlvErr, DecErr}
 use Rattle.answers.specs.Join.{total, join_codes}
 use Rattle.answers.specs.FirstError.{first_error}
+use Rattle.answers.specs.declared.collector.Collector.{Collector}
 
 pub joins_to_first_error : (cs : List Code) → total Okay join_codes cs ≡ first_error cs
 joins_to_first_error [] = refl
@@ -26,6 +27,18 @@ folds_to_first_error [] = refl
 folds_to_first_error (Okay ∷ cs) = folds_to_first_error cs
 folds_to_first_error (SlvErr ∷ cs) = slverr_stands cs
 folds_to_first_error (DecErr ∷ cs) = decerr_stands cs
+
+-- a collector of codes, code by code
+abbrev pub collect : Collector Code → Code → Collector Code
+collect all c = record { sum = join_codes all.sum c }
+
+collects : (cs : List Code) (c : Code) → (fold collect (record { sum = c }) cs).sum ≡ fold join_codes c cs
+collects [] c = refl
+collects (d ∷ cs) c = collects cs (join_codes c d)
+
+-- what it collects from OKAY on is the first error
+pub collects_to_first_error : (cs : List Code) → (fold collect (record { sum = Okay }) cs).sum ≡ first_error cs
+collects_to_first_error cs = collects cs Okay ∙ folds_to_first_error cs
 
 pub code_right : (x : Code) → join_codes x Okay ≡ x
 code_right Okay = refl

@@ -45,5 +45,6 @@ pub fn join_all(codes: &[Code]) -> Code
 {
     codes
         .iter()
-        .fold(Code::neutral(), |all, code| all.join(*code))
+        .fold(Collector::new(), |all, code| all.add(*code))
+        .sum()
 }

@@ -61,24 +61,28 @@ impl<T: Drop> From<AllocFailed<T>> for ListFault {
     }
 }
 
-/// What is expected in place of what is wrong. Only a list expects it, so `Wrong` does not say it.
-fn expected(wrong: Wrong) -> &'static str {
+/// What a list expects in place of what is wrong. Only a list expects it, so `Wrong` does not say it. Of what is wrong with whole scripts
+/// alone it knows nothing.
+fn expected(wrong: Wrong) -> Option<&'static str> {
     match wrong {
-        Wrong::NotDue =>
-            "; expected 'bridge U L level', or after that 'ID ADDR LEN SIZE BURST LOCK CACHE PROT', with digits 0-9 a-f and one space between words",
-        Wrong::TooLarge => "; expected at most ffff for ID, ffffffff for ADDR, ff for any other",
-        Wrong::EndsEarly => "; expected a plan and whole lines, each ended by byte 0a",
-        Wrong::TooLong | Wrong::Trailing => "",
+        Wrong::NotDue => Some(
+            "'bridge U L level', or after that 'ID ADDR LEN SIZE BURST LOCK CACHE PROT', with digits 0-9 a-f and one space between words",
+        ),
+        Wrong::TooLarge => Some("at most ffff for ID, ffffffff for ADDR, ff for any other"),
+        Wrong::EndsEarly => Some("a plan and whole lines, each ended by byte 0a"),
+        Wrong::TooLong | Wrong::Trailing => None,
     }
 }
 
 impl fmt::Display for Refusal {
     fn fmt<W: fmt::Write>(&self, f: &mut fmt::Formatter<W>) -> fmt::Result {
         match *self {
-            Refusal::Words(Fault { wrong, line, place }) => {
-                let expected = expected(wrong);
-                write!(f, "line {line}, byte {place}: {wrong}{expected}")
-            }
+            Refusal::Words(Fault { wrong, line, place }) => match expected(wrong) {
+                Some(expected) => {
+                    write!(f, "line {line}, byte {place}: {wrong}; expected {expected}")
+                }
+                None => write!(f, "line {line}, byte {place}: the input is refused"),
+            },
             Refusal::Plan(refusal, line) => {
                 let number = u8::from(refusal);
                 write!(f, "line {line}: refusal {number}, {refusal}")

@@ -1,16 +1,12 @@
 -- What a ring holds.
 use Rattle.std.specs.Prelude.{ℕ, List, length}
-use Rattle.std.specs.Borrow.{MutBor}
+use Rattle.ring.specs.Circular.{stored}
+use Rattle.ring.specs.declared.ring.Ring.{Ring}
 
--- a queue: its slots, and its entries, oldest first
-pub record Queue (X : Type 0) : Type 0 where
-  pub slots : MutBor (List X)
-  pub entries : List X
+-- the entries of a ring, oldest first
+abbrev pub entries : {X : Type 0} → Ring X → List X
+entries r = stored r.slots.now r.head r.len
 
--- the entries of a queue, oldest first
-abbrev pub entries : {X : Type 0} → Queue X → List X
-entries q = q.entries
-
--- how many slots a queue has
-abbrev pub slot_count : {X : Type 0} → Queue X → ℕ
-slot_count q = length q.slots.now
+-- how many slots a ring has
+abbrev pub slot_count : {X : Type 0} → Ring X → ℕ
+slot_count r = length r.slots.now

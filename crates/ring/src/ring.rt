@@ -3,14 +3,15 @@
 //! The oldest entry stands in slot `head`, and the other `len - 1` in the slots after it, oldest first, where slot 0
 //! follows the last slot. What the other slots hold has no meaning.
 //!
-//! No method has a precondition, and a queue never has more entries than slots.
-ghost use Rattle.std.specs.Prelude.{◌≡◌, ◌+◌, ◌<◌, ◌≤◌, [], ◌∷◌, ◌++◌, length, Some, None, Ok, Err, nat_le, slice_index_or};
-ghost use Rattle.ring.specs.Circular.{first_slot, slot_after, first};
+//! Any values of the three fields are a queue: a `head` past the last slot stands for slot 0, and a `len` past the
+//! number of slots stands for that number. So no method has a precondition, and a queue never has more entries than
+//! slots.
+ghost use Rattle.std.specs.Prelude.{◌≡◌, ℕ, ◌+◌, ◌-◌, ◌<◌, ◌≤◌, min, [], ◌∷◌, ◌++◌, length, Some, None, Ok, Err, nat_le, slice_index_or, slice_set};
+ghost use Rattle.ring.specs.Circular.{stored, first_slot, slot_after, first};
 ghost use Rattle.ring.specs.Entries.{entries, slot_count};
 
 use std::error::Error;
 use std::fmt;
-use std::marker::Model;
 
 /// Why an entry is not taken: every slot holds one.
 #[derive(Clone, Copy, Debug, PartialEq, Eq)]
@@ -24,26 +25,14 @@ impl fmt::Display for Full {
 
 impl Error for Full {}
 
-// No heap: the owner lends the slots, and the queue counts what it holds.
+// No heap: the owner lends the slots, and the queue counts what it holds. No Model: behind one, the owner would not know its slots again
+// once the queue is gone.
 /// A first-in first-out queue of at most as many entries as the owner lends slots.
 #[derive(Drop)]
 pub struct Ring<'a, T> {
     slots: &'a mut [T],
     head: usize,
     len: usize,
-}
-
-// Clauses see the slots and the entries, oldest first. The head is one of the slots, or 0 where there is none.
-impl<'a, T> Model for Ring<'a, T> {
-    ghost use Rattle.std.specs.Prelude.{◌-◌, ◌≤◌, length};
-    ghost use Rattle.ring.specs.Circular.{stored};
-    ghost use Rattle.ring.specs.Entries.{Queue};
-
-    ghost Value = { Queue T };
-
-    ghost view = { λ r. record { slots = r.slots; entries = stored r.slots.now r.head r.len } };
-
-    ghost invariant = { λ r. (r.head ≤ length r.slots.now - 1) × (r.len ≤ length r.slots.now) };
 }
 
 impl<'a, T: Copy> Ring<'a, T> {
@@ -68,14 +57,14 @@ impl<'a, T: Copy> Ring<'a, T> {
         ensures count { result ≡ length (entries self.now) }
         ensures within { result ≤ slot_count self.now }
     {
-        self.len
+        self.span().1
     }
 
     /// Returns `true` if there is no entry.
     pub fn is_empty(&self) -> bool
         ensures { result ≡ nat_le (length (entries self.now)) 0 }
     {
-        self.len == 0
+        self.len() == 0
     }
 
     /// Returns `true` if every slot holds an entry.
@@ -84,7 +73,7 @@ impl<'a, T: Copy> Ring<'a, T> {
     pub fn is_full(&self) -> bool
         ensures { result ≡ nat_le (slot_count self.now) (length (entries self.now)) }
     {
-        self.slots.len() <= self.len
+        self.slots.len() <= self.len()
     }
 
     /// Returns the oldest entry, which stays in the queue.
@@ -93,12 +82,10 @@ impl<'a, T: Copy> Ring<'a, T> {
     pub fn front(&self) -> Option<T>
         ensures { result ≡ first (entries self.now) }
     {
+        let slots: &[T] = &*self.slots;
+        let (head, len) = self.span();
         // An `if` here and in `get`: only under its test is there such a slot.
-        if self.is_empty() {
-            None
-        } else {
-            Some(self.slots[self.head])
-        }
+        if len > 0 { Some(slots[head]) } else { None }
     }
 
     /// Returns the entry that `i` others are older than, which stays in the queue.
@@ -107,8 +94,11 @@ impl<'a, T: Copy> Ring<'a, T> {
     pub fn get(&self, i: usize) -> Option<T>
         ensures { elim result [ Some x ↦ (i < length (entries self.now)) × ((d : T) → x ≡ slice_index_or (entries self.now) i d) | None ↦ length (entries self.now) ≤ i ] }
     {
-        if i < self.len {
-            Some(self.slots[slot_after(self.head, i, self.slots.len())])
+        let slots: &[T] = &*self.slots;
+        let (head, len) = self.span();
+        if i < len {
+            let slot = slot_after(head, i, slots.len());
+            Some(slots[slot])
         } else {
             None
         }
@@ -119,25 +109,29 @@ impl<'a, T: Copy> Ring<'a, T> {
     pub fn as_slices(&self) -> (&[T], &[T])
         ensures { result.0.now ++ result.1.now ≡ entries self.now }
     {
-        let (low, high) = self.slots.split_at(self.head);
-        let upper = self.len.min(high.len());
-        (&high[..upper], &low[..self.len - upper])
+        let slots: &[T] = &*self.slots;
+        let (head, len) = self.span();
+        let (low, high) = slots.split_at(head);
+        let upper = len.min(high.len());
+        (&high[..upper], &low[..len - upper])
     }
 
     /// Adds `entry` after the newest entry.
     ///
     /// Returns `Full` if the queue is full. The queue and its slots are then as they were.
-    #[tactic(auto, using(crate::proofs::Circular::length_stored, crate::proofs::Circular::stored_more))]
     pub fn push(&mut self, entry: T) -> Result<(), Full>
         ensures taken { elim result [ Ok _ ↦ (length (entries self.old) < slot_count self.old) × (entries self.new ≡ entries self.old ++ (entry ∷ [])) | Err _ ↦ (slot_count self.old ≤ length (entries self.old)) × (self.new ≡ self.old) ] }
         ensures kept { slot_count self.new ≡ slot_count self.old }
     {
-        if self.is_full() {
+        let slots = self.slots.len();
+        let (head, len) = self.span();
+        if slots <= len {
             return Err(Full);
         }
-        let slot = slot_after(self.head, self.len, self.slots.len());
+        let slot = slot_after(head, len, slots);
         self.slots[slot] = entry;
-        self.len += 1;
+        self.head = head;
+        self.len = len + 1;
         Ok(())
     }
 
@@ -145,14 +139,17 @@ impl<'a, T: Copy> Ring<'a, T> {
     ///
     /// The slots stay as they are, and the slot of the entry is free for another.
     /// Returns `None` if the queue is empty. The queue is then as it was.
-    #[tactic(auto, using(crate::proofs::Circular::without_first))]
     pub fn pop(&mut self) -> Option<T>
         ensures taken { elim result [ None ↦ (entries self.old ≡ []) × (self.new ≡ self.old) | Some x ↦ entries self.old ≡ x ∷ entries self.new ] }
         ensures kept { self.new.slots ≡ self.old.slots }
     {
-        let entry = self.front()?;
-        self.head = first_slot(self.head + 1, self.slots.len());
-        self.len -= 1;
+        let (head, len) = self.span();
+        if len == 0 {
+            return None;
+        }
+        let entry = self.slots[head];
+        self.head = head + 1;
+        self.len = len - 1;
         Some(entry)
     }
 
@@ -165,6 +162,24 @@ impl<'a, T: Copy> Ring<'a, T> {
     {
         self.len = 0;
     }
+
+    /// Returns the slot of the oldest entry, and the number of entries.
+    ///
+    /// For an empty queue the slot is where its next entry goes, if it has slots.
+    fn span(&self) -> (usize, usize)
+        ensures slot { 0 < slot_count self.now → result.0 < slot_count self.now }
+        ensures count { result.1 ≡ length (entries self.now) }
+        ensures within { result.1 ≤ slot_count self.now }
+        ensures low { result.0 ≤ slot_count self.now }
+        ensures same { stored self.now.slots.now result.0 result.1 ≡ entries self.now }
+        ensures none { result.1 ≡ 0 → entries self.now ≡ [] }
+        ensures each { (i : ℕ) (d : T) → i < result.1 → slice_index_or (entries self.now) i d ≡ slice_index_or self.now.slots.now (slot_after result.0 i (slot_count self.now)) d }
+        ensures oldest { (d : T) → 0 < result.1 → entries self.now ≡ slice_index_or self.now.slots.now result.0 d ∷ stored self.now.slots.now (result.0 + 1) (result.1 - 1) }
+        ensures next { (x : T) → result.1 < slot_count self.now → stored (slice_set self.now.slots.now (slot_after result.0 result.1 (slot_count self.now)) x) result.0 (result.1 + 1) ≡ entries self.now ++ (x ∷ []) }
+    {
+        let slots = self.slots.len();
+        (first_slot(self.head, slots), used_slots(self.len, slots))
+    }
 }
 
 /// Returns the slot that `head` stands for: slot 0, if it is past the last of `slots` slots.
@@ -173,6 +188,13 @@ fn first_slot(head: usize, slots: usize) -> usize
     ensures within { 0 < slots → result < slots }
 {
     if head < slots { head } else { 0 }
+}
+
+/// Returns how many of `slots` slots hold an entry: all of them, if `len` is past their number.
+fn used_slots(len: usize, slots: usize) -> usize
+    ensures { result ≡ min len slots }
+{
+    len.min(slots)
 }
 
 /// Returns the slot that is `offset` after the slot `head`, where slot 0 follows the last.

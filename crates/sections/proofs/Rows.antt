@@ -28,7 +28,7 @@ module _ (cs : List Carrier) (s : List ℕ) where
       (r, rw (one, read, here) (behind_one xs r (rows cs (n - (i + 1)) s next)))
 
   -- the lines that are left are those that are read
-  left_read : (n at : ℕ) (xs : List Row) (end : ℕ) → rows cs n s at ≡ got xs end → rows_left cs n s at ≡ xs
+  pub left_read : (n at : ℕ) (xs : List Row) (end : ℕ) → rows cs n s at ≡ got xs end → rows_left cs n s at ≡ xs
   left_read zero at xs end e = cc
   left_read (suc n) at xs end e =
       let p = then_got (row cs s at) _ xs end e in

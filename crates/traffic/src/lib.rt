@@ -11,8 +11,9 @@ mod gate;
 mod load;
 
 use axi::plan::Plan;
-use bridge::bridge::Bridge;
-use bridge::slots::Slots;
+use axi::wires::{Beat, ReadBeat, WriteAnswer};
+use bridge::bridge::{Bridge, Tables};
+use engines::taken::{NO_ANSWER, NO_BEAT, NO_BURST, NO_READ_BEAT, Taken};
 use gate::{ALL, SEED, shifted};
 use load::Load;
 
@@ -24,8 +25,20 @@ const SLOTS: usize = 4;
 fn drive(plan: Plan, edges: u64, gate: &mut dyn FnMut() -> u32) -> u64
     requires { IsAlwaysCallable gate.now }
 {
-    let mut slots: Slots<SLOTS> = Slots::new();
-    let mut bridge = Bridge::new(plan, slots.tables());
+    // Five arrays: with `Slots` the compiled library calls `memset`, and needs it from whoever links it.
+    let mut write_bursts = [NO_BURST; SLOTS];
+    let mut data_beats = [NO_BEAT; SLOTS];
+    let mut write_answers = [NO_ANSWER; SLOTS];
+    let mut read_bursts = [NO_BURST; SLOTS];
+    let mut read_beats = [NO_READ_BEAT; SLOTS];
+    let tables = Tables {
+        write_bursts: &mut write_bursts,
+        data_beats: &mut data_beats,
+        write_answers: &mut write_answers,
+        read_bursts: &mut read_bursts,
+        read_beats: &mut read_beats,
+    };
+    let mut bridge = Bridge::new(plan, tables);
     let mut load = Load::default();
     for edge in 0..edges {
         load.step(&mut bridge, gate(), edge);
@@ -68,5 +81,9 @@ pub extern "C" fn traffic_bridge_bytes() -> usize {
 /// The bytes that the slots of its five tables take.
 #[unsafe(no_mangle)]
 pub extern "C" fn traffic_table_bytes() -> usize {
-    size_of::<Slots<SLOTS>>()
+    size_of::<[Taken; SLOTS]>()
+        + size_of::<[Beat; SLOTS]>()
+        + size_of::<[WriteAnswer; SLOTS]>()
+        + size_of::<[Taken; SLOTS]>()
+        + size_of::<[ReadBeat; SLOTS]>()
 }

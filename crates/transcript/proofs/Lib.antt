@@ -1,4 +1,5 @@
 mod Digits
 mod Numbers
+mod Rows
 mod There
 mod Wide

@@ -3,15 +3,15 @@ ghost use Rattle.std.specs.Fmt.{WritesOnOk};
 ghost use Rattle.transcript.specs.Printing.{Writes, spaced};
 ghost use Rattle.transcript.specs.Printing.Base.{Hex};
 ghost use Rattle.transcript.specs.Crossings.{channel, fields, crossing_text, entry_line, edge_lines, verdict_told, edge_crossings};
-ghost use Rattle.std.specs.Prelude.{◌≡◌, Some};
+ghost use Rattle.std.specs.Prelude.{◌≡◌, ◌≤◌, take, Some};
 
+use crate::print::{number, numbers, word};
 use axi::verdict::Verdict;
 use axi::wires::{Beat, Inputs, LowerRead, Outputs, Place, ReadBeat, WriteAnswer};
 use bridge::report::{Report, Verdicts};
 use engines::taken::Taken;
 use std::alloc::AllocError;
 use std::fmt;
-use std::io::Write;
 
 /// A payload that crosses on a channel.
 #[derive(Clone, Copy)]
@@ -68,42 +68,52 @@ impl Crossing {
         }
     }
 
-    /// The fields of the payload.
-    fn write_fields<W: fmt::Write>(self, f: &mut fmt::Formatter<W>) -> fmt::Result
-        ensures { WritesOnOk W.write_str_gives f.old result (spaced Hex (fields self)) f.new }
+    /// The fields of the payload at the front of four numbers, and how many they are.
+    fn fields(self) -> ([u64; 4], usize)
+        ensures count { result.1 ≤ 4 }
+        ensures fields { take result.1 result.0 ≡ fields self }
     {
         match self {
             Crossing::Aw(taken) | Crossing::Ar(taken) => {
                 let verdict = u8::from(taken.verdict);
-                write_numbers(f, &[taken.burst.id.into(), verdict.into()])
+                ([taken.burst.id.into(), verdict.into(), 0, 0], 2)
             }
-            Crossing::W(beat) | Crossing::Lw(beat) => {
-                write_numbers(f, &[beat.wdata, beat.wstrb.into()])
-            }
+            Crossing::W(beat) | Crossing::Lw(beat) => ([beat.wdata, beat.wstrb.into(), 0, 0], 2),
             Crossing::B(answer) => {
                 let code = u8::from(answer.code);
-                write_numbers(f, &[answer.id.into(), code.into()])
+                ([answer.id.into(), code.into(), 0, 0], 2)
             }
             Crossing::R(beat) => {
                 let code = u8::from(beat.code);
                 let last = u64::from(beat.last);
-                write_numbers(f, &[beat.id.into(), beat.rdata, code.into(), last])
+                ([beat.id.into(), beat.rdata, code.into(), last], 4)
             }
             Crossing::Law(place) | Crossing::Lar(place) => {
-                write_numbers(f, &[place.addr.into(), place.prot.into()])
+                ([place.addr.into(), place.prot.into(), 0, 0], 2)
             }
-            Crossing::Lb(code) => write_numbers(f, &[code.into()]),
-            Crossing::Lr(read) => write_numbers(f, &[read.lrdata, read.lrresp.into()]),
+            Crossing::Lb(code) => ([code.into(), 0, 0, 0], 1),
+            Crossing::Lr(read) => ([read.lrdata, read.lrresp.into(), 0, 0], 2),
         }
     }
 
+    /// The fields of the payload, with a space before each.
+    fn write_fields<W: fmt::Write>(self, f: &mut fmt::Formatter<W>) -> fmt::Result
+        ensures { WritesOnOk W.write_str_gives f.old result (spaced Hex (fields self)) f.new }
+    {
+        let (fields, count) = self.fields();
+        write_numbers(f, &fields[..count])
+    }
+
+    // Straight into the vector: through `Display` a short line takes four times the work.
     /// The line of a crossing: the edge, the channel and the fields.
-    #[tactic(auto, using(crate::proofs::Numbers::line))]
     pub fn print(self, out: &mut Vec<u8>, edge: u64) -> Result<(), AllocError>
         ensures { Writes result out.old.items out.new.items (entry_line edge self) }
     {
-        // A vector refuses bytes only for want of memory.
-        writeln!(out, "{edge:x} {self}").map_err(|_| AllocError)
+        number(out, edge)?;
+        out.push(b' ')?;
+        word(out, self.name())?;
+        let (fields, count) = self.fields();
+        numbers(out, &fields[..count])
     }
 }
 

@@ -5,3 +5,4 @@
 pub mod crossing;
 pub mod ending;
 pub mod fault;
+mod print;

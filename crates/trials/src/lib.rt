@@ -1,4 +1,5 @@
-//! Tests of the other crates through their public calls. They stand here, since a crate with tests is proved a second time for them.
+//! Tests of the other crates through their public calls, and what a caller can prove by them. They stand here, since a crate with tests is
+//! proved a second time for them.
 
 #![tactic(auto)]
 
@@ -10,6 +11,7 @@ mod cursors;
 mod edges;
 #[cfg(test)]
 mod lists;
+pub mod owners;
 #[cfg(test)]
 mod queues;
 #[cfg(test)]

@@ -1,8 +1,10 @@
 //! Bad lists, and what the user is told of them.
 use listing::item::Item;
 use listing::read::read_items;
+use listing::refusal::{ListFault, Refusal};
 use std::process::Abort;
 use std::test::Fail;
+use words::fault::{Fault, Wrong};
 
 // As in the tests of `explain`, of another reader.
 /// Passes where the list is refused with these words.
@@ -77,6 +79,41 @@ fn bad_values(rt: HostRuntime) -> Result<(), Fail> {
 }
 
 // As the test of this name in `explain`, which has a reader of its own.
+/// Passes where a fault of this kind is told so.
+fn told(rt: &(impl Abort + AllocGlobal), wrong: Wrong, words: &str) -> Result<(), Fail> {
+    let line = 3;
+    let place = 17;
+    let fault = ListFault::from(Refusal::from(Fault { wrong, line, place }));
+    assert_eq!(rt; fault.to_string(rt.alloc())?.as_str(), words);
+    Ok(())
+}
+
+#[test]
+fn faults_of_whole_scripts(rt: HostRuntime) -> Result<(), Fail> {
+    let words = "line 3, byte 17: the input is refused";
+    told(&rt, Wrong::TooLong, words)?;
+    told(&rt, Wrong::Trailing, words)
+}
+
+#[test]
+fn what_a_list_expects(rt: HostRuntime) -> Result<(), Fail> {
+    told(
+        &rt,
+        Wrong::NotDue,
+        "line 3, byte 17: not the due word or separator; expected 'bridge U L level', or after that 'ID ADDR LEN SIZE BURST LOCK CACHE PROT', with digits 0-9 a-f and one space between words",
+    )?;
+    told(
+        &rt,
+        Wrong::TooLarge,
+        "line 3, byte 17: the number is too large; expected at most ffff for ID, ffffffff for ADDR, ff for any other",
+    )?;
+    told(
+        &rt,
+        Wrong::EndsEarly,
+        "line 3, byte 17: the input ends too early; expected a plan and whole lines, each ended by byte 0a",
+    )
+}
+
 #[test]
 fn fields_in_their_order(rt: HostRuntime) -> Result<(), Fail> {
     let Ok(items) = read_items(rt.alloc(), b"bridge 8 4 1\nabc 1234 fe 5 2 1 d 6\n") else {

@@ -1,4 +1,5 @@
 //! Queues: order, freed slots, refused pushes.
+use crate::owners::cleared;
 use ring::{Full, Ring};
 
 #[test]
@@ -63,4 +64,11 @@ fn slices_hold_the_entries_in_order(rt: HostRuntime) {
     let (upper, lower) = ring.as_slices();
     assert_eq!(rt; (upper, lower), (&[2, 3][..], &[4][..]));
     assert!(rt; !ring.is_empty());
+}
+
+#[test]
+fn a_cleared_queue_leaves_its_slots(rt: HostRuntime) {
+    let mut slots = [1u8, 2];
+    cleared(&mut slots);
+    assert_eq!(rt; slots, [1, 2]);
 }

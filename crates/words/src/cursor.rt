@@ -21,7 +21,14 @@ fn line_ends(bytes: &[u8]) -> usize
     ensures count { result ≡ line_ends bytes.now }
     ensures small { result < 2 ^ 63 }
 {
-    bytes.iter().filter(|b| **b == b'\n').count()
+    // A loop: by `filter` and `count` each byte took twice the instructions.
+    let mut n = 0;
+    for b in bytes {
+        if *b == b'\n' {
+            n += 1;
+        }
+    }
+    n
 }
 
 impl<'a> Cursor<'a> {
