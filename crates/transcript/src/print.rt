@@ -40,6 +40,7 @@ pub fn number(out: &mut Vec<u8>, v: u64) -> Result<(), AllocError>
 pub fn numbers(out: &mut Vec<u8>, vs: &[u64]) -> Result<(), AllocError>
     ensures { Writes result out.old.items out.new.items (row Hex vs.now) }
 {
+    // Counted, since the place in the row says what follows.
     for (i, v) in vs.iter().enumerate() {
         number(out, *v)?;
         out.push(if i + 1 < vs.len() { b' ' } else { b'\n' })?;

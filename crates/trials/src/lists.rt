@@ -78,7 +78,6 @@ fn bad_values(rt: HostRuntime) -> Result<(), Fail> {
     )
 }
 
-// As the test of this name in `explain`, which has a reader of its own.
 /// Passes where a fault of this kind is told so.
 fn told(rt: &(impl Abort + AllocGlobal), wrong: Wrong, words: &str) -> Result<(), Fail> {
     let line = 3;
@@ -114,6 +113,7 @@ fn what_a_list_expects(rt: HostRuntime) -> Result<(), Fail> {
     )
 }
 
+// As the test of this name in `explain`, which has a reader of its own.
 #[test]
 fn fields_in_their_order(rt: HostRuntime) -> Result<(), Fail> {
     let Ok(items) = read_items(rt.alloc(), b"bridge 8 4 1\nabc 1234 fe 5 2 1 d 6\n") else {
